@@ -1,0 +1,3 @@
+pub mod Below
+pub mod Clashing
+pub mod Held

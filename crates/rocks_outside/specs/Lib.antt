@@ -1,0 +1,10 @@
+pub use Rattle.rocks_text.specs.Files
+pub use Rattle.rocks_text.specs.Texts
+pub mod Counts
+pub mod Device
+pub mod Held
+pub mod Memory
+pub mod Shelf
+pub mod Source
+pub mod Stream
+pub mod Told
