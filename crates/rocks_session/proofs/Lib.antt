@@ -1,0 +1,10 @@
+mod Carried
+mod Folder
+mod FromWords
+mod Installed
+mod Listing
+mod Offers
+mod PathTexts
+mod Put
+mod Servers
+mod Strip

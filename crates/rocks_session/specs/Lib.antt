@@ -1,0 +1,11 @@
+pub use Rattle.rocks_text.specs.Files
+pub use Rattle.rocks_outside.specs.Told
+pub use Rattle.tree_model.specs.Rock
+pub use Rattle.tree_model.specs.Tree
+pub mod Faults
+pub mod Run
+pub mod Staged
+pub mod Step
+pub mod Unpacked
+pub mod Version
+pub mod Words

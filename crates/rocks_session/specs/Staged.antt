@@ -1,0 +1,95 @@
+-- Files that wait to be written into a tree, and what a shelf offers.
+use Rattle.std.specs.Prelude.{IfSome, ℕ, ◌≡◌, ◌≢◌, ◌≤◌, ◌<◌, List, [], ◌∷◌, ◌++◌, length, map, Option, None, Some, true, false, slice_get, drop, codes, IsTrue, ◌&&◌}
+use Rattle.std.specs.List.{AllByRecursion, starts_with, list_all, filter_map}
+use Rattle.std.specs.Bool.{nat_eq}
+use Rattle.std.specs.FinMap.{insert, get, contains_key}
+use Rattle.rocks_text.specs.Files.{Files}
+use Rattle.tree_model.specs.Rock.{Rock}
+use Rattle.tree_model.specs.Tree.{files_of, plain_path, rockspec_path}
+use Rattle.rocks_text.specs.declared.item.Item.{Item}
+use Rattle.rocks_session.specs.Unpacked.{earliest_with, offering, is_whole_taken, is_file_within, is_taken, module_at, item_at, unpacked, unpacked_rockspec}
+use Rattle.rocks_session.specs.declared.take.Staged.{Staged}
+use Rattle.rocks_session.specs.declared.take.Found.{Found}
+use Rattle.rocks_session.specs.declared.take.Found.TheVariants.{Nowhere, TooLong, At}
+use Rattle.rocks_session.specs.declared.take.Offer.{Offer}
+use Rattle.rocks_session.specs.declared.take.Offer.TheVariants.{Absent, NotServed, Rock as Ready}
+use Rattle.rocks_session.specs.declared.version.RockKey.{RockKey}
+
+-- the path and the bytes of a staged file
+abbrev pub file_of : Staged → List ℕ × List ℕ
+file_of staged = (staged.at, staged.bytes.items)
+
+-- the files with others put over them, one after another
+abbrev pub put_all : List (List ℕ × List ℕ) → Files → Files
+put_all [] files = files
+put_all (file ∷ more) files = put_all more (insert files file.0 file.1)
+
+-- no path stands twice
+abbrev pub HaveOwnPaths : List (List ℕ × List ℕ) → Type 0
+HaveOwnPaths [] = Unit {0}
+HaveOwnPaths (file ∷ more) = AllByRecursion (λ other. other.0 ≢ file.0) more × HaveOwnPaths more
+
+-- where the rockspec was found
+abbrev pub IsFoundIn : List Files → (path : List ℕ) → Found → Type 0
+IsFoundIn servers path Nowhere = earliest_with path servers ≡ None
+IsFoundIn servers path TooLong =
+    (files : Files) × (earliest_with path servers ≡ Some files) × (contains_key files path ≡ true) × (is_file_within 262144 (get files path) ≡ false)
+IsFoundIn servers path (At server bytes) =
+    (files : Files) × (earliest_with path servers ≡ Some files) × (slice_get servers server ≡ Some files)
+    × (get files path ≡ Some bytes.items) × (is_file_within 262144 (get files path) ≡ true)
+
+abbrev pub IsServer : ℕ → Found → Type 0
+IsServer count Nowhere = Unit {0}
+IsServer count TooLong = Unit {0}
+IsServer count (At server bytes) = server < count
+
+-- a module of the folder, or None where it can't be taken
+abbrev pub IsModule : (path : List ℕ) → Option (List ℕ) → Option Staged → Type 0
+IsModule path held None = (starts_with nat_eq path (codes "lua/") && is_file_within 16777216 held) ≡ false
+IsModule path held (Some staged) = ((starts_with nat_eq path (codes "lua/") && is_file_within 16777216 held) ≡ true) × (held ≡ Some staged.bytes.items)
+
+-- these are the files of some rock with that key, each with a path of its own
+pub record StandFor (key : RockKey) (rock : Rock) (staged : List Staged) : Type 0 where
+  pub name : rock.name ≡ key.name
+  pub version : rock.version ≡ key.version
+  pub files : map file_of staged ≡ files_of rock
+  pub own_paths : HaveOwnPaths (files_of rock)
+
+-- an item's bytes, at its place in a tree
+abbrev pub placed : Item × List ℕ → List ℕ × List ℕ
+placed item = (plain_path item.0, item.1)
+
+-- Of the files of a folder these that come first can be taken, and are staged behind the rockspec.
+pub record AreTaken (key : RockKey) (spec : List ℕ) (holds : Option (List Files)) (server : ℕ) (front : List (List ℕ)) (staged : List Staged) : Type 0 where
+  pub items : List (Item × List ℕ)
+  pub staged_as : map file_of staged ≡ (rockspec_path key.name key.version, spec) ∷ map placed items
+  pub modules : map (λ item. item.0) items ≡ filter_map (module_at key.name key.version) front
+  pub told : IfSome holds (λ servers. (files : Files) → slice_get servers server ≡ Some files
+      → is_file_within 262144 (get files (unpacked_rockspec key.name key.version)) ≡ true
+      → (list_all (is_taken files key.name key.version) front ≡ true) × (items ≡ filter_map (item_at files key.name key.version) front))
+
+-- a file of the folder that can't be taken
+abbrev pub IsNotTaken : RockKey → Option (List Files) → (server : ℕ) → (path : List ℕ) → Type 0
+IsNotTaken key holds server path = IfSome holds (λ servers. (files : Files) → slice_get servers server ≡ Some files
+    → is_file_within 262144 (get files (unpacked_rockspec key.name key.version)) ≡ true → is_taken files key.name key.version path ≡ false)
+
+-- what is offered can be written, whatever a shelf tells
+abbrev pub IsSound : RockKey → Offer → Type 0
+IsSound key Absent = Unit {0}
+IsSound key NotServed = Unit {0}
+IsSound key (Ready staged) = (rock : Rock) × StandFor key rock staged.items
+
+-- the offer of one server's folder
+abbrev pub IsFolderOffer : Files → RockKey → Offer → Type 0
+IsFolderOffer files key Absent = ⊥
+IsFolderOffer files key NotServed = is_whole_taken files key.name key.version ≡ false
+IsFolderOffer files key (Ready staged) =
+    (is_whole_taken files key.name key.version ≡ true) × (map file_of staged.items ≡ files_of (unpacked files key.name key.version))
+
+-- the offer of all servers
+abbrev pub IsOffer : List Files → RockKey → Offer → Type 0
+IsOffer servers key Absent = offering servers key.name key.version ≡ None
+IsOffer servers key NotServed =
+    (files : Files) × (offering servers key.name key.version ≡ Some files) × IsFolderOffer files key NotServed
+IsOffer servers key (Ready staged) =
+    (files : Files) × (offering servers key.name key.version ≡ Some files) × IsFolderOffer files key (Ready staged)

@@ -1,0 +1,23 @@
+//! One run of `rocks`: words to a command, a tree that is opened, the command carried out, and its reply said.
+#![tactic(auto)]
+
+mod execution;
+mod paths;
+mod reply;
+mod session;
+mod status;
+mod take;
+mod tree;
+mod version;
+mod words;
+
+pub use execution::{SessionFault, execute};
+pub use reply::{Refusal, Reply};
+pub use session::run;
+pub use status::Status;
+pub use tree::{OpenFault, Tree, open};
+pub use version::{RockKey, Version};
+pub use words::{Command, RootWords, WordsFault, read_words, roots};
+
+#[cfg(test)]
+mod tests;

@@ -1,0 +1,201 @@
+// Reads the rock of an unpacked rock's folder from the shelf.
+ghost use Rattle.std.specs.Prelude.{◌≡◌, ◌≤◌, ◌<◌, ◌∷◌, ◌++◌, IsTrue, IfOk, IfErr, IfSome, Some, true, false, List, ℕ, [], slice_get, codes, drop, string_bytes};
+ghost use Rattle.std.specs.List.{starts_with};
+ghost use Rattle.std.specs.Bool.{nat_eq};
+ghost use Rattle.std.specs.FinMap.{get};
+ghost use Rattle.rocks_text.specs.Files.{Files};
+ghost use Rattle.rocks_text.specs.Texts.{is_file_path};
+ghost use Rattle.rocks_outside.specs.Shelf.{held_at};
+ghost use Rattle.rocks_session.specs.Faults.{IsShelfFault};
+ghost use Rattle.rocks_session.specs.Staged.{IsSound, IsOffer, IsFolderOffer, IsFoundIn, IsServer, IsModule, AreTaken, IsNotTaken};
+ghost use Rattle.rocks_session.specs.Unpacked.{unpacked_folder, unpacked_rockspec, is_file_within};
+ghost use Rattle.tree_model.specs.Tree.{rockspec_name};
+
+use crate::RockKey;
+use crate::execution::SessionFault;
+use crate::paths::{
+    below, module_place, rockspec_name, rockspec_place, unpacked_folder, unpacked_rockspec,
+};
+use rocks_outside::{Shelf, ShelfRead};
+use rocks_text::{FilePath, TreePath};
+use std::alloc::Global;
+
+/// The longest rockspec, in bytes.
+const LONGEST_ROCKSPEC: u32 = 262_144;
+
+/// The longest other file, in bytes.
+const LONGEST_FILE: u32 = 16_777_216;
+
+/// A file that waits to be written to its place in a tree.
+#[derive(Debug, Drop)]
+pub(crate) struct Staged {
+    pub at: TreePath,
+    pub bytes: Vec<u8>,
+}
+
+/// What the servers offer for a key.
+#[derive(Debug, Drop)]
+pub(crate) enum Offer {
+    /// No server has the rockspec.
+    Absent,
+    /// The folder has a file that can't be taken.
+    NotServed,
+    /// The files of the rock, in byte order of their places.
+    Rock(Vec<Staged>),
+}
+
+/// Where the rockspec was found.
+#[derive(Debug, Drop)]
+enum Found {
+    Nowhere,
+    TooLong,
+    At(u32, Vec<u8>),
+}
+
+/// An unpacked rock's folder: its server, its path there, and the name of its rockspec.
+#[derive(Debug, Drop)]
+struct Folder {
+    server: u32,
+    path: FilePath,
+    rockspec: String,
+}
+
+/// Reads what the servers offer for a key: the files of the folder `NAME-VERSION.rock/` on the earliest server that
+/// has its rockspec. All files are read.
+pub(crate) fn take<F: Shelf>(
+    alloc: Global,
+    shelf: &mut F,
+    key: &RockKey,
+) -> Result<Offer, SessionFault>
+    ensures sound { IfOk result (IsSound key.now) }
+    ensures offer { IfOk result (λ offer. IfSome (F.holds shelf.old) (λ servers. IsOffer servers key.now offer)) }
+    ensures fault { IfErr result (IsShelfFault (F.faults shelf.old) (F.faults shelf.new)) }
+    ensures holds { F.holds shelf.new ≡ F.holds shelf.old }
+    ensures server_count { F.server_count shelf.new ≡ F.server_count shelf.old }
+    ensures faults { F.faults shelf.old ≤ F.faults shelf.new }
+{
+    let rockspec = unpacked_rockspec(alloc, key)?;
+    match find(alloc, shelf, &rockspec)? {
+        Found::Nowhere => Ok(Offer::Absent),
+        Found::TooLong => Ok(Offer::NotServed),
+        Found::At(server, bytes) => take_folder(alloc, shelf, server, key, bytes),
+    }
+}
+
+// The rockspec on the earliest server that has it.
+fn find<F: Shelf>(alloc: Global, shelf: &mut F, path: &FilePath) -> Result<Found, SessionFault>
+    ensures found { IfOk result (λ found. IfSome (F.holds shelf.old) (λ servers. IsFoundIn servers path.now found)) }
+    ensures server { IfOk result (IsServer (F.server_count shelf.old)) }
+    ensures fault { IfErr result (IsShelfFault (F.faults shelf.old) (F.faults shelf.new)) }
+    ensures holds { F.holds shelf.new ≡ F.holds shelf.old }
+    ensures server_count { F.server_count shelf.new ≡ F.server_count shelf.old }
+    ensures faults { F.faults shelf.old ≤ F.faults shelf.new }
+{
+    let servers = shelf.servers();
+    for server in 0..servers {
+        match shelf.read(alloc, server, path, LONGEST_ROCKSPEC)? {
+            ShelfRead::Absent => {}
+            ShelfRead::TooLong => return Ok(Found::TooLong),
+            ShelfRead::Bytes(bytes) => return Ok(Found::At(server, bytes)),
+        }
+    }
+    Ok(Found::Nowhere)
+}
+
+// The files of the folder on that server, whose rockspec was read.
+fn take_folder<F: Shelf>(
+    alloc: Global,
+    shelf: &mut F,
+    server: u32,
+    key: &RockKey,
+    rockspec: Vec<u8>,
+) -> Result<Offer, SessionFault>
+    requires { server < F.server_count shelf.old }
+    ensures sound { IfOk result (IsSound key.now) }
+    ensures offer { IfOk result (λ offer. IfSome (F.holds shelf.old) (λ servers. (files : Files) → slice_get servers server ≡ Some files
+        → get files (unpacked_rockspec key.now.name key.now.version) ≡ Some rockspec.items
+        → is_file_within 262144 (get files (unpacked_rockspec key.now.name key.now.version)) ≡ true
+        → IsFolderOffer files key.now offer)) }
+    ensures fault { IfErr result (IsShelfFault (F.faults shelf.old) (F.faults shelf.new)) }
+    ensures holds { F.holds shelf.new ≡ F.holds shelf.old }
+    ensures server_count { F.server_count shelf.new ≡ F.server_count shelf.old }
+    ensures faults { F.faults shelf.old ≤ F.faults shelf.new }
+{
+    let folder = Folder {
+        server,
+        path: unpacked_folder(alloc, key)?,
+        rockspec: rockspec_name(alloc, key)?,
+    };
+    let mut staged = Vec::new(alloc);
+    staged.push(Staged {
+        at: rockspec_place(alloc, key)?,
+        bytes: rockspec,
+    })?;
+    let paths = shelf.list(alloc, server, &folder.path)?;
+    for path in &paths {
+        if !take_file(alloc, shelf, &folder, path, &mut staged)? {
+            return Ok(Offer::NotServed);
+        }
+    }
+    Ok(Offer::Rock(staged))
+}
+
+// Stages one file of the folder, and says whether it can be taken.
+fn take_file<F: Shelf>(
+    alloc: Global,
+    shelf: &mut F,
+    folder: &Folder,
+    path: &FilePath,
+    staged: &mut Vec<Staged>,
+) -> Result<bool, SessionFault>
+    requires server { folder.now.server < F.server_count shelf.old }
+    requires path { IsTrue (is_file_path (folder.now.path ++ 47 ∷ path.now)) }
+    ensures taken { (key : RockKey) (spec : List ℕ) (front : List (List ℕ))
+        → folder.now.path ≡ unpacked_folder key.name key.version → string_bytes folder.now.rockspec ≡ rockspec_name key.name key.version
+        → result ≡ Ok true → AreTaken key spec (F.holds shelf.old) folder.now.server front staged.old.items
+        → AreTaken key spec (F.holds shelf.old) folder.now.server (front ++ path.now ∷ []) staged.new.items }
+    ensures refused { (key : RockKey)
+        → folder.now.path ≡ unpacked_folder key.name key.version → string_bytes folder.now.rockspec ≡ rockspec_name key.name key.version
+        → result ≡ Ok false → IsNotTaken key (F.holds shelf.old) folder.now.server path.now }
+    ensures fault { IfErr result (IsShelfFault (F.faults shelf.old) (F.faults shelf.new)) }
+    ensures holds { F.holds shelf.new ≡ F.holds shelf.old }
+    ensures server_count { F.server_count shelf.new ≡ F.server_count shelf.old }
+    ensures faults { F.faults shelf.old ≤ F.faults shelf.new }
+{
+    if path.as_str() == folder.rockspec.as_str() {
+        return Ok(true);
+    }
+    let Some(file) = take_module(alloc, shelf, folder.server, &folder.path, path)? else {
+        return Ok(false);
+    };
+    staged.push(file)?;
+    Ok(true)
+}
+
+// A module of the folder, or `None` where the file can't be taken.
+fn take_module<F: Shelf>(
+    alloc: Global,
+    shelf: &mut F,
+    server: u32,
+    folder: &FilePath,
+    path: &FilePath,
+) -> Result<Option<Staged>, SessionFault>
+    requires server { server < F.server_count shelf.old }
+    requires path { IsTrue (is_file_path (folder.now ++ 47 ∷ path.now)) }
+    ensures place { IfOk result (λ file. IfSome file (λ staged. staged.at ≡ codes "share/lua/5.4/" ++ drop 4 path.now)) }
+    ensures lua { IfOk result (λ file. IfSome file (λ staged. IsTrue (starts_with nat_eq path.now (codes "lua/")))) }
+    ensures file { IfOk result (λ file. IfSome (F.holds shelf.old) (λ servers. IsModule path.now (held_at servers server (folder.now ++ 47 ∷ path.now)) file)) }
+    ensures fault { IfErr result (IsShelfFault (F.faults shelf.old) (F.faults shelf.new)) }
+    ensures holds { F.holds shelf.new ≡ F.holds shelf.old }
+    ensures server_count { F.server_count shelf.new ≡ F.server_count shelf.old }
+    ensures faults { F.faults shelf.old ≤ F.faults shelf.new }
+{
+    let Some(at) = module_place(alloc, path)? else {
+        return Ok(None);
+    };
+    let whole = below(alloc, folder, path.as_str())?;
+    match shelf.read(alloc, server, &whole, LONGEST_FILE)? {
+        ShelfRead::Bytes(bytes) => Ok(Some(Staged { at, bytes })),
+        _ => Ok(None),
+    }
+}
