@@ -1,0 +1,143 @@
+ghost use Rattle.std.specs.Prelude.{◌≡◌, ◌≤◌, ◌<◌, ◌^◌, ◌-◌, IfOk, IsErrOf, min, length};
+ghost use Rattle.rocks_outside.specs.Counts.{HasRisen};
+ghost use Rattle.rocks_outside.specs.Shelf.{IsWithin, IsFolderListing};
+
+use crate::disk;
+use crate::disk::Stands;
+use crate::listing::{are_apart, file_paths, is_ascending};
+use rocks_outside::{Shelf, ShelfError, ShelfRead};
+use rocks_text::FilePath;
+use std::alloc::Global;
+use std::fs;
+use std::rt::Files;
+
+/// Servers in real folders. It tells nothing of what they hold.
+///
+/// A server's own folder that is missing or no folder is a fault, and so is a link or the like below it.
+#[derive(Drop)]
+pub struct FolderShelf<R: Files + AllocGlobal + Clone + Drop> {
+    rt: R,
+    roots: Vec<String>,
+    faults: u64,
+}
+
+impl<R: Files + AllocGlobal + Clone + Drop> FolderShelf<R> {
+    /// Servers in these folders, in this order.
+    pub fn new(rt: R, roots: Vec<String>) -> FolderShelf<R> {
+        FolderShelf {
+            rt,
+            roots,
+            faults: 0,
+        }
+    }
+
+    fn count<T>(&mut self, answer: &Result<T, ShelfError>)
+        ensures roots { self.new.roots.items ≡ self.old.roots.items }
+        ensures faults { self.old.faults ≤ self.new.faults }
+        ensures cause { IsErrOf answer.now ShelfError.Failed → HasRisen self.old.faults self.new.faults }
+    {
+        if let Err(ShelfError::Failed) = answer {
+            self.faults = self.faults.saturating_add(1);
+        }
+    }
+}
+
+impl<R: Files + AllocGlobal + Clone + Drop> Shelf for FolderShelf<R> {
+    ghost use Rattle.std.specs.Prelude.{None, min, length, ◌^◌, ◌-◌};
+
+    ghost holds = { λ _. None };
+
+    ghost server_count = { λ s. min (length s.roots.items) (2 ^ 32 - 1) };
+
+    ghost faults = { λ s. s.faults };
+
+    fn servers(&self) -> u32 {
+        self.roots.len().min(0xffff_ffff) as u32
+    }
+
+    fn read(
+        &mut self,
+        alloc: Global,
+        server: u32,
+        path: &FilePath,
+        limit: u32,
+    ) -> Result<ShelfRead, ShelfError> {
+        let answer = read_file(
+            alloc,
+            &self.rt,
+            self.roots[server as usize].as_str(),
+            path.as_str(),
+            limit,
+        );
+        self.count(&answer);
+        answer
+    }
+
+    fn list(
+        &mut self,
+        alloc: Global,
+        server: u32,
+        folder: &FilePath,
+    ) -> Result<Vec<FilePath>, ShelfError> {
+        let answer = list_files(
+            alloc,
+            &self.rt,
+            self.roots[server as usize].as_str(),
+            folder,
+        );
+        self.count(&answer);
+        answer
+    }
+}
+
+fn read_file<R: Files + AllocGlobal + Clone + Drop>(
+    alloc: Global,
+    rt: &R,
+    root: &str,
+    path: &str,
+    limit: u32,
+) -> Result<ShelfRead, ShelfError>
+    ensures { IfOk result (IsWithin limit) }
+{
+    if !disk::has_root(rt, root)? {
+        return Err(ShelfError::Failed);
+    }
+    match disk::stands_below(alloc, rt, root, path)? {
+        Stands::Nothing | Stands::Folder => return Ok(ShelfRead::Absent),
+        Stands::File => {}
+        Stands::Other => return Err(ShelfError::Failed),
+    }
+    let at = disk::join(alloc, root, path)?;
+    if disk::length(rt, at.as_str())? > u64::from(limit) {
+        return Ok(ShelfRead::TooLong);
+    }
+    let bytes = disk::read_whole(alloc, rt, root, path)?;
+    if bytes.len() > limit as usize {
+        return Ok(ShelfRead::TooLong);
+    }
+    Ok(ShelfRead::Bytes(bytes))
+}
+
+fn list_files<R: Files + AllocGlobal + Clone + Drop>(
+    alloc: Global,
+    rt: &R,
+    root: &str,
+    folder: &FilePath,
+) -> Result<Vec<FilePath>, ShelfError>
+    ensures { IfOk result (λ paths. IsFolderListing folder.now paths.items) }
+{
+    if !disk::has_root(rt, root)? {
+        return Err(ShelfError::Failed);
+    }
+    match disk::stands_below(alloc, rt, root, folder.as_str())? {
+        Stands::Nothing | Stands::File => return Ok(Vec::new(alloc)),
+        Stands::Folder => {}
+        Stands::Other => return Err(ShelfError::Failed),
+    }
+    let at = disk::join(alloc, root, folder.as_str())?;
+    let names = disk::sorted_files(rt, at.as_str())?;
+    if !is_ascending(&names) || !are_apart(&names) {
+        return Err(ShelfError::Failed);
+    }
+    Ok(file_paths(alloc, folder, &names)?)
+}
