@@ -1,0 +1,10 @@
+pub mod Alphabet
+pub mod Vocabulary
+pub mod Turns
+pub mod QuotedText
+pub mod LongBracket
+pub mod TokenLists
+pub mod Spelling
+pub mod Faults
+pub mod Laws
+pub mod Reading
