@@ -1,5 +1,5 @@
 -- From what the parts of a run leave to what the run leaves.
-use Rattle.std.proofs.Common.{◌≡◌, ℕ, List, [], ◌∷◌, ◌++◌, Option, None, Some, IfSome, Result, Ok, refl, sym, ap, ◌∙◌, subst, take, length, arith, is_some, true, false}
+use Rattle.std.proofs.Common.{◌≡◌, ℕ, List, [], ◌++◌, Option, None, Some, IfSome, Result, Ok, refl, sym, ap, ◌∙◌, subst, take, length, arith, is_some, true, false}
 use Rattle.std.proofs.lemmas.List.{append-nil, take_all}
 use Rattle.rocks_text.specs.Files.{Files}
 use Rattle.rocks_outside.specs.Told.{WhereTold}

@@ -1,19 +1,18 @@
 -- Going over the files of an unpacked rock's folder, in the order of their listing.
-use Rattle.std.proofs.Common.{◌≡◌, ◌≢◌, ◌<◌, ◌≤◌, ◌+◌, ℕ, Bool, true, false, ◌&&◌, List, [], ◌∷◌, ◌++◌, Option, None, Some, IfSome, length, drop, map, cond, get_or, refl, sym, ap, ◌∙◌, subst, codes, slice_get, unwrap_or, IsTrue, arith}
+use Rattle.std.proofs.Common.{◌≡◌, ◌≢◌, ◌<◌, ℕ, Bool, true, false, ◌&&◌, List, [], ◌∷◌, ◌++◌, Option, None, Some, IfSome, length, drop, map, cond, get_or, refl, sym, ap, ◌∙◌, subst, codes, slice_get, unwrap_or, arith}
 use Rattle.std.proofs.lemmas.List.{append-nil, map-append}
 use Rattle.std.proofs.lemmas.List.Elements.{filter_map-append}
 use Rattle.std.proofs.lemmas.List.Folds.{list_all-append, list_all_at}
 use Rattle.std.proofs.lemmas.Bool.Decides.{Decides-eqb}
 use Rattle.std.proofs.lemmas.Slice.Eq.{bytes_eq-Decides, starts_is}
 use Rattle.std.specs.List.{list_all, filter_map, starts_with, AllByRecursion}
-use Rattle.std.specs.Option.{option_map}
 use Rattle.std.specs.Bool.{nat_eq}
 use Rattle.std.specs.Str.{bytes_eq}
 use Rattle.std.specs.Prelude.{Vec}
 use Rattle.std.specs.declared.alloc.Global.{Global}
-use Rattle.std.specs.Ordering.{nat_cmp, ordering_reverse}
-use Rattle.std.specs.Cmp.Lexicographic.{slice_cmp, nat_list_cmp_total}
-use Rattle.std.specs.declared.cmp.Ordering.TheVariants.{Less, Equal, Greater}
+use Rattle.std.specs.Ordering.{ordering_reverse}
+use Rattle.std.specs.Cmp.Lexicographic.{nat_list_cmp_total}
+use Rattle.std.specs.declared.cmp.Ordering.TheVariants.{Less}
 use Rattle.std.specs.FinMap.{get}
 use Rattle.rocks_text.specs.Files.{Files, path_cmp}
 use Rattle.rocks_text.specs.declared.item.Item.{Item}
@@ -21,13 +20,12 @@ use Rattle.rocks_text.specs.declared.item.Kind.TheVariants.{Lua}
 use Rattle.rocks_outside.specs.Device.{IsAscending}
 use Rattle.rocks_outside.specs.Shelf.{held_at, paths_below, held_below}
 use Rattle.tree_model.specs.Rock.{Rock}
-use Rattle.tree_model.specs.Tree.{plain_path, rockspec_name, rockspec_path, files_of}
-use Rattle.rocks_session.specs.Unpacked.{unpacked_folder, unpacked_path, unpacked_rockspec, is_file_within, is_taken, is_whole_taken, module_at, item_at, unpacked}
+use Rattle.tree_model.specs.Tree.{plain_path, rockspec_name, rockspec_path}
+use Rattle.rocks_session.specs.Unpacked.{unpacked_folder, unpacked_path, unpacked_rockspec, is_file_within, is_taken, is_whole_taken, module_at, item_at}
 use Rattle.rocks_session.specs.Staged.{file_of, placed, AreTaken, IsNotTaken, IsFolderOffer, HaveOwnPaths, IsModule, StandFor}
 use Rattle.rocks_session.specs.declared.take.Offer.TheVariants.{Rock as Ready}
 use Rattle.rocks_session.specs.declared.take.Staged.{Staged}
 use Rattle.rocks_session.specs.declared.version.RockKey.{RockKey}
-use Rattle.rocks_session.proofs.PathTexts.{conj}
 
 both : (x y : Bool) → x ≡ true → y ≡ true → (x && y) ≡ true
 both x y e f = rw (e, f) refl

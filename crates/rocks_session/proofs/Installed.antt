@@ -1,5 +1,5 @@
 -- After the files of an offered rock are written over the empty tree, it is the tree of the set with that rock.
-use Rattle.std.proofs.Common.{◌≡◌, ℕ, false, List, [], ◌∷◌, ◌++◌, Option, None, Some, IfSome, map, refl, sym, ap, ◌∙◌, subst, codes, Vec, Global}
+use Rattle.std.proofs.Common.{◌≡◌, ℕ, false, List, [], ◌∷◌, Option, None, Some, IfSome, map, sym, ap, ◌∙◌, subst, codes, Vec, Global}
 use Rattle.std.specs.Str.{bytes_eq}
 use Rattle.std.specs.FinMap.{empty}
 use Rattle.rocks_text.specs.Files.{Files}
@@ -9,7 +9,7 @@ use Rattle.tree_model.specs.Tree.{files_of, tree_of}
 use Rattle.rocks_session.specs.Unpacked.{unpacked}
 use Rattle.rocks_session.specs.Staged.{file_of, put_all, HaveOwnPaths, IsSound, IsOffer}
 use Rattle.rocks_session.specs.Step.{step}
-use Rattle.rocks_session.specs.Run.{AreOfSet, key_of}
+use Rattle.rocks_session.specs.Run.{AreOfSet}
 use Rattle.rocks_session.specs.declared.take.Staged.{Staged}
 use Rattle.rocks_session.specs.declared.take.Offer.TheVariants.{Rock as Ready}
 use Rattle.rocks_session.specs.declared.version.RockKey.{RockKey}

@@ -1,4 +1,5 @@
 mod Carried
+mod Complete
 mod Folder
 mod FromWords
 mod Installed

@@ -1,5 +1,5 @@
 -- From a folder's offer to that of all servers.
-use Rattle.std.proofs.Common.{◌≡◌, ◌+◌, ℕ, Bool, true, false, ◌&&◌, List, [], ◌∷◌, ◌++◌, Option, None, Some, IfSome, length, drop, append_assoc, length-append, refl, sym, ap, ◌∙◌, subst, slice_get, Vec, Global, cond, arith}
+use Rattle.std.proofs.Common.{◌≡◌, ◌+◌, ℕ, Bool, true, false, ◌&&◌, List, [], ◌∷◌, ◌++◌, Option, None, Some, IfSome, length, drop, append_assoc, length-append, refl, sym, ap, ◌∙◌, subst, slice_get, Vec, Global}
 use Rattle.std.proofs.lemmas.List.{drop_at}
 use Rattle.std.proofs.lemmas.Bool.Decides.{Decides-eqb}
 use Rattle.std.proofs.lemmas.Slice.Eq.{starts_is, bytes_eq-Decides}
@@ -10,7 +10,7 @@ use Rattle.std.specs.Str.{bytes_eq}
 use Rattle.std.specs.Ordering.{eq_by_cmp}
 use Rattle.std.specs.FinMap.{get, contains_key, keys, contains_key-keys}
 use Rattle.rocks_text.specs.Files.{Files, path_cmp}
-use Rattle.rocks_outside.specs.Shelf.{below, paths_below}
+use Rattle.rocks_outside.specs.Shelf.{below}
 use Rattle.tree_model.specs.Tree.{rockspec_name}
 use Rattle.rocks_session.specs.Unpacked.{unpacked_folder, unpacked_rockspec, is_file_within, is_taken, is_whole_taken}
 use Rattle.rocks_session.specs.Staged.{IsFoundIn, IsFolderOffer, IsOffer}

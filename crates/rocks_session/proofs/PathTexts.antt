@@ -1,18 +1,17 @@
 -- Texts made of names and versions are parts of paths.
-use Rattle.std.proofs.Common.{◌≡◌, ◌≤◌, ◌<◌, ◌+◌, ℕ, zero, suc, Bool, true, false, ◌&&◌, ◌||◌, not, IsTrue, List, [], ◌∷◌, ◌++◌, length, refl, sym, ap, ◌∙◌, subst, arith, codes, slice_index, ◌==◌, nat_le, length-append, length-drop, append_assoc, take, drop, get_or, lit≤}
+use Rattle.std.proofs.Common.{◌≡◌, ◌≤◌, ◌<◌, ◌+◌, ℕ, zero, suc, Bool, true, false, ◌&&◌, ◌||◌, not, IsTrue, List, [], ◌∷◌, ◌++◌, length, refl, sym, ap, ◌∙◌, subst, arith, codes, slice_index, ◌==◌, nat_le, length-append, length-drop, take, drop, get_or, lit≤}
 use Rattle.std.proofs.lemmas.Bool.Decides.{nat_tests}
-use Rattle.std.proofs.lemmas.Grind.{common_steps}
 use Rattle.std.proofs.lemmas.List.Folds.{list_all-append}
 use Rattle.std.proofs.lemmas.List.Sums.{split_at_first, passes_at_first}
 use Rattle.std.proofs.lemmas.List.Splits.{slice_split_at, slice_split_none}
 use Rattle.std.proofs.lemmas.List.Elements.{All-nil, All-cons}
-use Rattle.std.specs.List.{list_all, All, slice_split, before_first, after_first, position_or_len}
-use Rattle.std.specs.Char.{is_ascii_alphanumeric, is_ascii_digit, is_ascii_lowercase}
+use Rattle.std.specs.List.{list_all, All, before_first, after_first, position_or_len}
+use Rattle.std.specs.Char.{is_ascii_alphanumeric, is_ascii_digit}
 use Rattle.std.specs.Str.{bytes_eq}
-use Rattle.rocks_text.specs.Texts.{is_name_byte, is_name, is_part_byte, is_part, parts, is_path, is_file_path, is_tree_path}
+use Rattle.rocks_text.specs.Texts.{is_name_byte, is_name, is_part_byte, is_part, parts, is_file_path, is_tree_path}
 use Rattle.tree_model.specs.Tree.{rockspec_name, rockspec_path}
 use Rattle.rocks_session.specs.Unpacked.{unpacked_folder, unpacked_rockspec}
-use Rattle.rocks_session.specs.Version.{is_dash, is_body_byte, is_body, is_revision, is_rock_version}
+use Rattle.rocks_session.specs.Version.{is_dash, is_body_byte, is_rock_version}
 
 -- a byte of a name, of a version or of what joins them
 abbrev pub is_word_byte : ℕ → Bool

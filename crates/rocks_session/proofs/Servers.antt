@@ -1,5 +1,5 @@
 -- Going over the servers in turn, for the earliest that has a path.
-use Rattle.std.proofs.Common.{◌≡◌, ◌<◌, ◌≤◌, ◌+◌, ℕ, zero, suc, List, [], ◌∷◌, Option, None, Some, IfSome, length, drop, refl, sym, ap, ◌∙◌, subst, arith, slice_get, true, false, is_some, cond, Bool, nat_le, add-one}
+use Rattle.std.proofs.Common.{◌≡◌, ◌<◌, ◌≤◌, ◌+◌, ℕ, zero, suc, List, [], ◌∷◌, Option, None, Some, IfSome, length, drop, refl, sym, ap, ◌∙◌, subst, arith, slice_get, true, false, is_some, cond, add-one}
 use Rattle.std.proofs.lemmas.Bool.Decides.{nat_tests}
 use Rattle.std.specs.FinMap.{get}
 use Rattle.rocks_text.specs.Files.{Files}

@@ -1,17 +1,19 @@
 -- What a run leaves. (This project's own.)
-use Rattle.std.specs.Prelude.{ℕ, ◌≡◌, List, [], ◌∷◌, ◌++◌, map, take, Option, None, Some, IsSome, IfSome, Result, Ok}
-use Rattle.std.specs.FinMap.{empty, keys}
+use Rattle.std.specs.Prelude.{ℕ, ◌≡◌, ◌⊎◌, List, [], ◌∷◌, ◌++◌, map, take, codes, Option, None, Some, IsSome, IfSome, Result, Ok}
+use Rattle.std.specs.FinMap.{keys}
 use Rattle.rocks_text.specs.Files.{Files}
 use Rattle.rocks_outside.specs.Told.{WhereTold}
 use Rattle.tree_model.specs.Rock.{Rock}
 use Rattle.tree_model.specs.Tree.{tree_of}
-use Rattle.rocks_session.specs.Step.{Outcome, step}
+use Rattle.rocks_session.specs.Step.{Outcome, step, added_text, refusal_text}
 use Rattle.rocks_session.specs.declared.reply.Refusal.{Refusal}
+use Rattle.rocks_session.specs.declared.reply.Refusal.TheVariants.{Provided, NoRock, NotServed}
 use Rattle.rocks_session.specs.declared.reply.Reply.{Reply}
 use Rattle.rocks_session.specs.declared.status.Status.{Status}
 use Rattle.rocks_session.specs.declared.status.Status.TheVariants.{Done, Refused, BadWords, NoMemory, DeviceFault, ShelfFault, Damaged}
 use Rattle.rocks_session.specs.declared.version.RockKey.{RockKey}
 use Rattle.rocks_session.specs.declared.words.Command.{Command}
+use Rattle.rocks_session.specs.declared.words.Command.TheVariants.{Add}
 use Rattle.rocks_session.specs.declared.words.WordsFault.{WordsFault}
 
 abbrev pub key_of : Rock → RockKey
@@ -21,6 +23,21 @@ key_of rock = record { name = rock.name; version = rock.version }
 pub record IsReply (outcome : Outcome) (reply : Reply) : Type 0 where
   pub refusal : reply.refusal ≡ outcome.refusal
   pub text : reply.text.items ≡ outcome.text
+
+-- a refusal has the values of its command
+abbrev pub KeepsValues : Command → Refusal → Type 0
+KeepsValues (Add key) Provided = key.name ≡ codes "lua"
+KeepsValues (Add key) (NoRock kept) = kept ≡ key
+KeepsValues (Add key) (NotServed kept) = kept ≡ key
+
+-- Whatever the servers hold, the empty tree then has the command's rock and the reply says so, or it has no rock and
+-- the reply is a refusal of this command.
+abbrev pub IsReplyTo : Command → (rocks : List RockKey) → Reply → Type 0
+IsReplyTo (Add key) rocks reply = replied reply.refusal
+  where
+    replied : Option Refusal → Type 0
+    replied None = (rocks ≡ key ∷ []) × (reply.text.items ≡ added_text key)
+    replied (Some refusal) = (rocks ≡ []) × KeepsValues (Add key) refusal × (reply.text.items ≡ refusal_text refusal)
 
 -- this holds where the reply is a refusal
 abbrev pub IfRefused : Type 0 → Reply → Type 0
@@ -44,6 +61,10 @@ HasRun NoMemory = ⊥
 HasRun DeviceFault = ⊥
 HasRun ShelfFault = ⊥
 HasRun (Damaged path) = ⊥
+
+-- the run carried its command out, unless memory ran out or one of these came
+abbrev pub HasRunUnless : (device_failed shelf_failed : Type 0) → Status → Type 0
+HasRunUnless device_failed shelf_failed status = HasRun status ⊎ ((status ≡ NoMemory) ⊎ (device_failed ⊎ shelf_failed))
 
 -- what a run that carried its command out leaves
 pub record CarriesOut (outcome : Outcome) (status : Status) (files_before files_now : Option Files) (said_before said_now : Option (List ℕ)) : Type 0 where

@@ -1,5 +1,5 @@
 -- Files that wait to be written into a tree, and what a shelf offers.
-use Rattle.std.specs.Prelude.{IfSome, ℕ, ◌≡◌, ◌≢◌, ◌≤◌, ◌<◌, List, [], ◌∷◌, ◌++◌, length, map, Option, None, Some, true, false, slice_get, drop, codes, IsTrue, ◌&&◌}
+use Rattle.std.specs.Prelude.{IfSome, ℕ, ◌≡◌, ◌≢◌, ◌<◌, List, [], ◌∷◌, map, Option, None, Some, true, false, slice_get, codes, ◌&&◌}
 use Rattle.std.specs.List.{AllByRecursion, starts_with, list_all, filter_map}
 use Rattle.std.specs.Bool.{nat_eq}
 use Rattle.std.specs.FinMap.{insert, get, contains_key}

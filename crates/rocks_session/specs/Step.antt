@@ -1,5 +1,5 @@
 -- What a command does to a set of rocks, and what it replies. (This project's own.)
-use Rattle.std.specs.Prelude.{ℕ, List, [], ◌∷◌, ◌++◌, codes, if◌then◌else◌, Option, None, Some}
+use Rattle.std.specs.Prelude.{ℕ, List, ◌∷◌, ◌++◌, codes, if◌then◌else◌, Option, None, Some}
 use Rattle.std.specs.Str.{bytes_eq}
 use Rattle.rocks_text.specs.Files.{Files}
 use Rattle.tree_model.specs.Rock.{Rock}

@@ -1,5 +1,5 @@
 -- What the words of a command line say. A word is the list of its bytes. (This project's own.)
-use Rattle.std.specs.Prelude.{ℕ, ◌≡◌, Bool, ◌||◌, not, nat_lt, List, [], ◌∷◌, length, map, codes, string_bytes, if◌then◌else◌, Option, None, Some, Result, Ok, Err}
+use Rattle.std.specs.Prelude.{ℕ, ◌≡◌, Bool, ◌||◌, not, nat_lt, List, [], ◌∷◌, length, codes, if◌then◌else◌, Result, Ok, Err}
 use Rattle.std.specs.List.{list_any}
 use Rattle.std.specs.Str.{bytes_eq}
 use Rattle.rocks_text.specs.Texts.{is_name, lowered}

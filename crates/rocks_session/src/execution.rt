@@ -4,7 +4,7 @@ ghost use Rattle.rocks_outside.specs.Told.{WhereTold};
 ghost use Rattle.tree_model.specs.Rock.{Rock};
 ghost use Rattle.tree_model.specs.Tree.{tree_of};
 ghost use Rattle.rocks_session.specs.Faults.{HasCause, IsDeviceFault};
-ghost use Rattle.rocks_session.specs.Run.{IsReply, AreOfSet, IfRefused, key_of};
+ghost use Rattle.rocks_session.specs.Run.{IsReply, IsReplyTo, AreOfSet, IfRefused, key_of};
 ghost use Rattle.rocks_session.specs.Staged.{file_of, put_all};
 ghost use Rattle.rocks_session.specs.Step.{step, refusal_text};
 
@@ -96,7 +96,8 @@ pub fn execute<V: Device, F: Shelf>(
     ensures tree { OnOk result (IfSome (F.holds shelf.old) (λ servers. tree.new ≡ map key_of (step servers [] command.now).set)) }
     ensures files { OnOk result (IfSome (F.holds shelf.old) (λ servers. IfSome (V.files device.new) (λ files. files ≡ tree_of (step servers [] command.now).set))) }
 
-    // Also where the shelf doesn't tell what it holds, the tree is that of a set.
+    // Also where the shelf doesn't tell what it holds, the reply is one to this command, and the tree that of a set.
+    ensures own { IfOk result (IsReplyTo command.now tree.new) }
     ensures set { OnOk result (IfSome (V.files device.new) (λ files. (set : List Rock) × AreOfSet set tree.new files)) }
     ensures refused { IfOk result (IfRefused ((tree.new ≡ tree.old) × (V.files device.new ≡ V.files device.old) × (V.clock device.new ≡ V.clock device.old))) }
 
@@ -124,6 +125,7 @@ fn add<V: Device, F: Shelf>(
     ensures reply { IfOk result (λ reply. IfSome (F.holds shelf.old) (λ servers. IsReply (step servers [] (Command.Add key.now)) reply)) }
     ensures tree { OnOk result (IfSome (F.holds shelf.old) (λ servers. tree.new ≡ map key_of (step servers [] (Command.Add key.now)).set)) }
     ensures files { OnOk result (IfSome (F.holds shelf.old) (λ servers. IfSome (V.files device.new) (λ files. files ≡ tree_of (step servers [] (Command.Add key.now)).set))) }
+    ensures own { IfOk result (IsReplyTo (Command.Add key.now) tree.new) }
     ensures set { OnOk result (IfSome (V.files device.new) (λ files. (set : List Rock) × AreOfSet set tree.new files)) }
     ensures refused { IfOk result (IfRefused ((tree.new ≡ tree.old) × (V.files device.new ≡ V.files device.old) × (V.clock device.new ≡ V.clock device.old))) }
     ensures told { WhereTold (λ before now. Unit {0}) (V.files device.old) (V.files device.new) }

@@ -1,7 +1,7 @@
 ghost use Rattle.std.specs.Prelude.{◌≡◌, ◌⊎◌, [], map, IfSome, IsErr, Ok, string_bytes};
 ghost use Rattle.rocks_outside.specs.Counts.{HasRisen};
 ghost use Rattle.tree_model.specs.Tree.{tree_of};
-ghost use Rattle.rocks_session.specs.Run.{HasRun, CarriesOut, IsLeastPath, SaysAtMost};
+ghost use Rattle.rocks_session.specs.Run.{HasRun, HasRunUnless, CarriesOut, IsLeastPath, SaysAtMost};
 ghost use Rattle.rocks_session.specs.Step.{step};
 ghost use Rattle.rocks_session.specs.Words.{command_of};
 
@@ -28,6 +28,10 @@ pub fn run<V: Device, F: Shelf, I: Source>(
         × IfSome (F.holds shelf.old) (λ servers. CarriesOut (step servers [] command) result (V.files device.old) (V.files device.new) (V.said device.old) (V.said device.new)) }
     ensures opened { HasRun result → IfSome (V.files device.old) (λ files. files ≡ tree_of []) }
     ensures refused { result ≡ Status.Refused → V.files device.new ≡ V.files device.old }
+
+    // Words that say a command, an empty tree and objects that don't fail are enough, but for memory.
+    ensures complete { (command : Command) → command_of (map string_bytes words.now) ≡ Ok command
+        → IfSome (V.files device.old) (λ files. files ≡ tree_of [] → HasRunUnless (HasRisen (V.faults device.old) (V.faults device.new)) (HasRisen (F.faults shelf.old) (F.faults shelf.new)) result) }
 
     // Each other status has its cause.
     ensures bad_words { result ≡ Status.BadWords → IsErr (command_of (map string_bytes words.now)) }

@@ -1,4 +1,7 @@
+mod failing;
+
 use super::*;
+use failing::{FailingDevice, FailingShelf};
 use rocks_outside::{Device, MemoryDevice, MemoryShelf, MemorySource, Shelf};
 use rocks_text::{FilePath, TreePath};
 use std::alloc::Global;
@@ -49,7 +52,7 @@ fn runs(
     Ok(status)
 }
 
-// The files of a device, a line each.
+// Looks at what a device holds at a path.
 fn holds(
     rt: &impl Abort,
     alloc: Global,
@@ -205,5 +208,46 @@ fn words_name_the_tree_and_the_servers(rt: HostRuntime) -> Result<(), Fail> {
     let copied = key.copy(alloc)?;
     assert_eq!(rt; copied.name.as_str(), "a_b");
     assert_eq!(rt; copied.version.as_str(), "1.0.rc-2");
+    Ok(())
+}
+
+#[test]
+fn a_device_that_fails_in_mid_run_is_a_device_fault(rt: HostRuntime) -> Result<(), Fail> {
+    let alloc = rt.alloc();
+    let words = words(alloc, "--tree T --from S add hello 1.0-1")?;
+    // The listing, three writes, the sync and the reply, and then none.
+    for (calls_left, code, said) in [
+        (0, 4, ""),
+        (1, 4, ""),
+        (3, 4, ""),
+        (4, 4, ""),
+        (5, 4, "+"),
+        (6, 0, "+ hello 1.0-1\nok\n"),
+    ] {
+        let mut shelf = hello(&rt, alloc)?;
+        let mut device = FailingDevice::new(alloc, calls_left);
+        let mut input = MemorySource::new(Vec::new(alloc), 1, None);
+        let status = run(alloc, &words, &mut device, &mut shelf, &mut input);
+        assert_eq!(rt; status.code(), code);
+        assert!(rt; device.said.as_slice() == said.as_bytes());
+    }
+    Ok(())
+}
+
+#[test]
+fn a_shelf_that_fails_in_mid_run_is_a_shelf_fault(rt: HostRuntime) -> Result<(), Fail> {
+    let alloc = rt.alloc();
+    let words = words(alloc, "--tree T --from S add hello 1.0-1")?;
+    // The rockspec, the listing and two modules, and then none.
+    for (calls_left, code) in [(0, 5), (1, 5), (2, 5), (3, 5), (4, 0)] {
+        let mut shelf = FailingShelf::new(hello(&rt, alloc)?, calls_left);
+        let mut device = MemoryDevice::new(alloc)?;
+        let mut input = MemorySource::new(Vec::new(alloc), 1, None);
+        let status = run(alloc, &words, &mut device, &mut shelf, &mut input);
+        assert_eq!(rt; status.code(), code);
+        if code == 5 {
+            assert_eq!(rt; device.clock(), 0);
+        }
+    }
     Ok(())
 }

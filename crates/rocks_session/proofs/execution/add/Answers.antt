@@ -1,4 +1,4 @@
-use Rattle.std.proofs.Common.{◌≡◌, false, refl, sym, ap, subst, ◌∙◌, codes, IfSome, map}
+use Rattle.std.proofs.Common.{◌≡◌, false, refl, sym, subst, ◌∙◌, codes, IfSome, map}
 use Rattle.std.specs.Str.{bytes_eq}
 use Rattle.rocks_outside.specs.Told.{WhereTold}
 use Rattle.rocks_session.specs.Staged.{IsSound, IsOffer, file_of, put_all}

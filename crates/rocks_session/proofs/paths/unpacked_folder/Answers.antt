@@ -1,4 +1,4 @@
-use Rattle.std.proofs.Common.{IsTrue, sym, subst, ◌∙◌, List, ℕ}
+use Rattle.std.proofs.Common.{IsTrue, sym, subst, ◌∙◌}
 use Rattle.rocks_text.specs.Texts.{is_file_path}
 use Rattle.rocks_session.proofs.PathTexts.{name_word, version_word, folder_path}
 use Rattle.rocks_session.proofs.paths.unpacked_folder.Goals as goal

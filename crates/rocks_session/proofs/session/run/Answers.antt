@@ -1,7 +1,9 @@
-use Rattle.std.proofs.Common.{◌≡◌, ◌++◌, ℕ, take, subst, sym, ◌∙◌}
+use Rattle.std.proofs.Common.{◌≡◌, ◌++◌, ℕ, Err, take, ap, inl, inr, subst, sym, ◌∙◌}
+use Rattle.rocks_outside.specs.Counts.{HasRisen}
 use Rattle.rocks_outside.specs.Told.{WhereTold}
-use Rattle.rocks_session.specs.declared.status.Status.TheVariants.{Done, Refused}
+use Rattle.rocks_session.specs.declared.status.Status.TheVariants.{Done, Refused, DeviceFault, Damaged}
 use Rattle.rocks_session.proofs.Carried.{says_nothing, says_part, says_all, carried_out, refused_ends, done_ends}
+use Rattle.rocks_session.proofs.Complete.{anyway, not_empty, risen_since}
 use Rattle.rocks_session.proofs.session.run.Goals as goal
 
 pub returns-in-Err-Damaged-clause-said : goal.returns-in-Err-Damaged-clause-said
@@ -61,3 +63,13 @@ returns-in-Err-Failed-clause-said g c = says_part _ (g.F.Shelf.holds c.args.shel
 
 pub returns-clause-said : goal.returns-clause-said
 returns-clause-said g c = says_nothing _ (g.F.Shelf.holds c.args.shelf.now) (g.V.Device.said c.args.device.now) (g.V.Device.said c.say.new.self) ((rw c.in-Err-NoMemory-say.field-0-is at c.in-Err-NoMemory-say.ensures.said) ∙ c.execute.ensures.said ∙ c.open.ensures.said)
+
+pub returns-in-Err-Damaged-clause-complete : goal.returns-in-Err-Damaged-clause-complete
+returns-in-Err-Damaged-clause-complete g c = λ _ _. rw c.in-Err-Damaged.path-is (not_empty (g.V.Device.files c.args.device.now)
+    (HasRisen (g.V.Device.faults c.args.device.now) (g.V.Device.faults c.open.new.device)) (HasRisen (g.F.Shelf.faults c.args.shelf.now) (g.F.Shelf.faults c.args.shelf.now)) (Damaged c.in-Err-Damaged.path)
+    c.in-Err-Damaged.path (rw c.in-Err-Damaged.field-0-is at c.in-Err-Damaged.ensures.fault))
+
+pub returns-in-Err-Failed-clause-complete : goal.returns-in-Err-Failed-clause-complete
+returns-in-Err-Failed-clause-complete g c = λ _ _. anyway (g.V.Device.files c.args.device.now)
+    (HasRisen (g.V.Device.faults c.args.device.now) (g.V.Device.faults c.say.new.self)) (HasRisen (g.F.Shelf.faults c.args.shelf.now) (g.F.Shelf.faults c.execute.new.shelf)) DeviceFault
+    (inr (inr (inl (risen_since _ _ _ _ c.open.ensures.faults c.execute.ensures.device_faults (c.in-Err-Failed.ensures.cause (ap Err c.in-Err-Failed.field-0-is))))))

@@ -1,7 +1,6 @@
 use Rattle.std.proofs.Common.{subst, IfSome}
 use Rattle.std.proofs.lemmas.Result.{IfOk-weaker}
 use Rattle.rocks_session.specs.Staged.{IsFoundIn}
-use Rattle.rocks_session.specs.Unpacked.{unpacked_rockspec}
 use Rattle.rocks_session.specs.declared.take.Found.TheVariants.{TooLong, At}
 use Rattle.rocks_session.proofs.Offers.{too_long_offer, folder_offer}
 use Rattle.rocks_session.proofs.take.take.Goals as goal

@@ -1,4 +1,4 @@
-use Rattle.std.proofs.Common.{◌≡◌, ◌≤◌, ◌<◌, ◌+◌, ◌∙◌, sym, refl, ap, subst, List, [], ◌∷◌, ◌++◌, IfSome, length, arith, take, get_or}
+use Rattle.std.proofs.Common.{◌≡◌, ◌<◌, ◌+◌, ◌∙◌, sym, ap, subst, [], ◌∷◌, ◌++◌, IfSome, length, arith, take, get_or}
 use Rattle.std.proofs.lemmas.List.{take_more, take_all}
 use Rattle.rocks_outside.specs.Shelf.{held_below}
 use Rattle.rocks_session.specs.Staged.{AreTaken, IsNotTaken}

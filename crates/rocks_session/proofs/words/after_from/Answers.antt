@@ -1,4 +1,4 @@
-use Rattle.std.proofs.Common.{◌≡◌, length, string_bytes, arith, sym, ◌∙◌, ap}
+use Rattle.std.proofs.Common.{length, string_bytes, arith, sym, ◌∙◌, ap}
 use Rattle.rocks_session.proofs.FromWords.{few_after, few_from}
 use Rattle.rocks_session.proofs.words.after_from.Goals as goal
 

@@ -1,4 +1,4 @@
-use Rattle.std.proofs.Common.{◌≡◌, ◌++◌, List, ℕ, map, string_bytes, sym, ◌∙◌, ap}
+use Rattle.std.proofs.Common.{◌++◌, List, ℕ, map, string_bytes, sym, ◌∙◌, ap}
 use Rattle.std.proofs.lemmas.List.{append-nil}
 use Rattle.rocks_session.proofs.FromWords.{few_from}
 use Rattle.rocks_session.proofs.words.from_folders.Goals as goal
