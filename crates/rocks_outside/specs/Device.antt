@@ -1,5 +1,5 @@
 -- What the calls of a device do to its files, to what it has said and to its counts.
-use Rattle.std.specs.Prelude.{ℕ, ◌≡◌, ◌≢◌, ◌⊎◌, ◌+◌, Bool, List, [], ◌∷◌, ◌++◌, length, take, Option, None, Some, Result, Ok, Err, Vec, IsTrue}
+use Rattle.std.specs.Prelude.{ℕ, ◌≡◌, ◌≢◌, ◌+◌, List, [], ◌∷◌, ◌++◌, take, Option, None, Some, Result, Ok, Err, IsTrue}
 use Rattle.std.specs.List.{filter, starts_with, AllByRecursion}
 use Rattle.std.specs.Bool.{nat_eq}
 use Rattle.std.specs.FinMap.{get, insert, remove, keys}

@@ -1,6 +1,6 @@
 -- What the calls of a shelf answer. A shelf is a list of servers, each a map from paths to bytes.
-use Rattle.std.specs.Prelude.{ℕ, ◌≡◌, ◌+◌, ◌<◌, ◌≤◌, Bool, IsTrue, List, [], ◌∷◌, ◌++◌, length, drop, if◌then◌else◌, Option, None, Some, slice_get}
-use Rattle.std.specs.List.{filter_map, starts_with, AllByRecursion, AllPairs, Contains}
+use Rattle.std.specs.Prelude.{ℕ, ◌≡◌, ◌+◌, ◌<◌, ◌≤◌, IsTrue, List, [], ◌∷◌, ◌++◌, length, drop, if◌then◌else◌, Option, None, Some, slice_get}
+use Rattle.std.specs.List.{filter_map, starts_with, AllByRecursion, Contains}
 use Rattle.std.specs.Bool.{nat_eq}
 use Rattle.std.specs.FinMap.{get, keys}
 use Rattle.rocks_text.specs.Files.{Files, IsFolderOf}

@@ -1,5 +1,5 @@
 -- The files of a tree, as a function of the set of its rocks. The places are those of a LuaRocks tree for Lua 5.4.
-use Rattle.std.specs.Prelude.{ℕ, List, [], ◌∷◌, ◌++◌, map, codes}
+use Rattle.std.specs.Prelude.{ℕ, List, ◌∷◌, ◌++◌, map, codes}
 use Rattle.std.specs.List.{flat_map}
 use Rattle.std.specs.FinMap.{from_entries}
 use Rattle.rocks_text.specs.Files.{Files}
