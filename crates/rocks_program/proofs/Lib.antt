@@ -1,1 +1,2 @@
-mod FolderOf
+mod Ascending
+mod Names

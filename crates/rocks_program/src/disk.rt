@@ -1,4 +1,8 @@
 // What the real device and shelf need of a file system. No call follows a link below the folder that it is given.
+ghost use Rattle.std.specs.Prelude.{◌≡◌, IfOk, string_bytes};
+ghost use Rattle.rocks_program.specs.declared.disk.DiskError.TheVariants.{NoMemory};
+ghost use Rattle.rocks_program.specs.Places.{joined};
+
 use rocks_outside::{DeviceError, ShelfError};
 use std::alloc::{AllocError, AllocFailed, Global};
 use std::fs::OpenFile;
@@ -19,20 +23,31 @@ pub(crate) enum DiskError {
 }
 
 impl From<AllocError> for DiskError {
+    ghost from_gives = { λ _ error. error ≡ NoMemory };
+
     fn from(_: AllocError) -> DiskError {
         DiskError::NoMemory
     }
 }
 
 impl<T: Drop> From<AllocFailed<T>> for DiskError {
+    ghost from_gives = { λ _ error. error ≡ NoMemory };
+
     fn from(_: AllocFailed<T>) -> DiskError {
         DiskError::NoMemory
     }
 }
 
 impl From<io::Error> for DiskError {
-    fn from(_: io::Error) -> DiskError {
-        DiskError::Failed
+    ghost use Rattle.rocks_program.specs.Faults.{disk_error};
+
+    ghost from_gives = { λ error other. other ≡ disk_error error };
+
+    fn from(error: io::Error) -> DiskError {
+        match error.kind() {
+            io::ErrorKind::OutOfMemory => DiskError::NoMemory,
+            _ => DiskError::Failed,
+        }
     }
 }
 
@@ -82,22 +97,28 @@ pub(crate) fn stands_at(files: &impl Files, path: &str) -> Result<Stands, DiskEr
         Ok(_) => Ok(Stands::Other),
         Err(error) if error.kind() == io::ErrorKind::NotFound => Ok(Stands::Nothing),
         Err(error) if error.kind() == io::ErrorKind::NotADirectory => Ok(Stands::Nothing),
-        Err(_) => Err(DiskError::Failed),
+        Err(error) => Err(DiskError::from(error)),
     }
 }
 
-/// Whether a folder stands at a path that a user named, which may be a link to one. It is false where nothing is.
+/// Whether a folder stands at a path that a user named, which may be a link to one. It is false where nothing is. The
+/// empty path names no folder, so it fails.
 pub(crate) fn has_root(files: &impl Files, root: &str) -> Result<bool, DiskError> {
+    if root.is_empty() {
+        return Err(DiskError::Failed);
+    }
     match fs::metadata(files, root) {
         Ok(found) if found.is_dir() => Ok(true),
         Ok(_) => Err(DiskError::Failed),
         Err(error) if error.kind() == io::ErrorKind::NotFound => Ok(false),
-        Err(_) => Err(DiskError::Failed),
+        Err(error) => Err(DiskError::from(error)),
     }
 }
 
 /// `folder/name`, or the name alone in the folder with the empty name.
-pub(crate) fn join(alloc: Global, folder: &str, name: &str) -> Result<String, AllocError> {
+pub(crate) fn join(alloc: Global, folder: &str, name: &str) -> Result<String, AllocError>
+    ensures { IfOk result (λ whole. string_bytes whole ≡ joined folder.now name.now) }
+{
     if folder.is_empty() {
         return String::from_str(alloc, name);
     }
@@ -175,7 +196,8 @@ fn walk_folder<R: Files + AllocGlobal + Clone + Drop>(
     Ok(())
 }
 
-/// Makes the folders above a relative path, where they are missing. What stands in a folder's place makes it fail.
+/// Makes the folders above a relative path, and the root itself, where they are missing. What stands in a folder's
+/// place makes it fail.
 pub(crate) fn make_parents(
     alloc: Global,
     files: &impl Files,
@@ -184,6 +206,7 @@ pub(crate) fn make_parents(
     changed: &mut Vec<String>,
 ) -> Result<(), DiskError> {
     if !has_root(files, root)? {
+        note_missing(alloc, files, root, changed)?;
         fs::create_dir_all(files, root)?;
     }
     for (place, byte) in path.as_bytes().iter().enumerate() {
@@ -194,6 +217,33 @@ pub(crate) fn make_parents(
         }
     }
     Ok(())
+}
+
+// Notes a missing root, the missing folders above it and the one that holds them all as ones to sync.
+fn note_missing(
+    alloc: Global,
+    files: &impl Files,
+    root: &str,
+    changed: &mut Vec<String>,
+) -> Result<(), DiskError> {
+    let mut folder = root;
+    for _ in 0..root.len() {
+        changed.push(String::from_str(alloc, folder)?)?;
+        if has_root(files, folder)? {
+            break;
+        }
+        folder = parent_of(folder);
+    }
+    Ok(())
+}
+
+// The folder that holds a path.
+fn parent_of(path: &str) -> &str {
+    match path.rsplit_once('/') {
+        Some(("", _)) => "/",
+        Some((folder, _)) => folder,
+        None => ".",
+    }
 }
 
 fn make_folder(
@@ -284,15 +334,13 @@ pub(crate) fn read_whole<R: Files + AllocGlobal>(
     Ok(fs::read(rt, at.as_str())?)
 }
 
-/// Makes a file or folder durable, where it is still there.
+/// Makes a file or folder durable, where it is still there. It follows a link, since the root may be one.
 pub(crate) fn sync_one(files: &impl Files, at: &str) -> Result<(), DiskError> {
-    match stands_at(files, at)? {
-        Stands::File | Stands::Folder => {
-            fs::open(files, at)?.sync_all()?;
-            Ok(())
-        }
-        Stands::Nothing => Ok(()),
-        Stands::Other => Err(DiskError::Failed),
+    match fs::open(files, at) {
+        Ok(opened) => Ok(opened.sync_all()?),
+        Err(error) if error.kind() == io::ErrorKind::NotFound => Ok(()),
+        Err(error) if error.kind() == io::ErrorKind::NotADirectory => Ok(()),
+        Err(error) => Err(DiskError::from(error)),
     }
 }
 

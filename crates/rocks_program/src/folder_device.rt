@@ -1,10 +1,10 @@
-ghost use Rattle.std.specs.Prelude.{◌≡◌, ◌≤◌, IfOk, IsErrOf};
+ghost use Rattle.std.specs.Prelude.{◌≡◌, ◌≤◌, ◌↔◌, [], IfOk, IfErr, IsErr, IsErrOf};
 ghost use Rattle.rocks_outside.specs.Counts.{HasRisen};
 ghost use Rattle.rocks_outside.specs.Device.{IsListing, IsCounted, Ticks};
 
 use crate::disk;
 use crate::disk::{DiskError, Stands};
-use crate::listing::{all_begin, begins, is_ascending, tree_paths};
+use crate::listing::paths_from;
 use rocks_outside::{Device, DeviceError};
 use rocks_text::TreePath;
 use std::alloc::Global;
@@ -33,7 +33,11 @@ struct DeviceCounts {
 
 impl<R: Files + AllocGlobal + Print + Clone + Drop> FolderDevice<R> {
     /// A tree in this folder.
-    pub fn new(rt: R, root: String) -> FolderDevice<R> {
+    pub fn new(rt: R, root: String) -> FolderDevice<R>
+        ensures root { result.root ≡ root }
+        ensures counts { (result.counts.clock ≡ 0) × (result.counts.looks ≡ 0) × (result.counts.faults ≡ 0) }
+        ensures changed { result.changed.items ≡ [] }
+    {
         let changed = Vec::new(rt.alloc());
         FolderDevice {
             rt,
@@ -185,17 +189,7 @@ fn list_files<R: Files + AllocGlobal + Clone + Drop>(
     ensures { IfOk result (λ paths. IsListing prefix.now paths.items) }
 {
     let names = disk::sorted_files(rt, root)?;
-    tree_paths(alloc, &names)?;
-    let mut kept = Vec::new(alloc);
-    for name in names {
-        if begins(name.as_str(), prefix) {
-            kept.push(name)?;
-        }
-    }
-    if !is_ascending(&kept) || !all_begin(&kept, prefix) {
-        return Err(DeviceError::Failed);
-    }
-    Ok(tree_paths(alloc, &kept)?)
+    Ok(paths_from(alloc, &names, prefix)?)
 }
 
 fn write_file<R: Files + AllocGlobal + Clone + Drop>(
@@ -206,12 +200,12 @@ fn write_file<R: Files + AllocGlobal + Clone + Drop>(
     changed: &mut Vec<String>,
 ) -> Result<(), DeviceError> {
     let alloc = rt.alloc();
-    let at = disk::join(alloc, root, path)?;
-    changed.push(disk::join(alloc, root, path)?)?;
     match disk::stands_below(alloc, rt, root, path)? {
         Stands::Nothing | Stands::File => {}
         Stands::Folder | Stands::Other => return Err(DeviceError::Failed),
     }
+    let at = disk::join(alloc, root, path)?;
+    changed.push(disk::join(alloc, root, path)?)?;
     disk::note_parent(alloc, root, path, changed)?;
     after_a_change(disk::make_parents(alloc, rt, root, path, changed))?;
     after_a_change(disk::write_whole(rt, at.as_str(), bytes))
@@ -266,7 +260,10 @@ fn remove_file<R: Files + AllocGlobal + Clone + Drop>(
 }
 
 // Want of memory in the midst of a change is a failed change: something may have happened.
-fn after_a_change(done: Result<(), DiskError>) -> Result<(), DeviceError> {
+fn after_a_change(done: Result<(), DiskError>) -> Result<(), DeviceError>
+    ensures same { IsErr result ↔ IsErr done }
+    ensures failed { IfErr result (λ error. error ≡ DeviceError.Failed) }
+{
     match done {
         Ok(()) => Ok(()),
         Err(_) => Err(DeviceError::Failed),

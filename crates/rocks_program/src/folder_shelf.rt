@@ -1,10 +1,10 @@
-ghost use Rattle.std.specs.Prelude.{◌≡◌, ◌≤◌, ◌<◌, ◌^◌, ◌-◌, IfOk, IsErrOf, min, length};
+ghost use Rattle.std.specs.Prelude.{◌≡◌, ◌≤◌, ◌<◌, ◌^◌, ◌-◌, Some, IfOk, IsErrOf, min, length};
 ghost use Rattle.rocks_outside.specs.Counts.{HasRisen};
-ghost use Rattle.rocks_outside.specs.Shelf.{IsWithin, IsFolderListing};
+ghost use Rattle.rocks_outside.specs.Shelf.{IsRead, IsWithin, IsFolderListing};
 
 use crate::disk;
 use crate::disk::Stands;
-use crate::listing::{are_apart, file_paths, is_ascending};
+use crate::listing::paths_below;
 use rocks_outside::{Shelf, ShelfError, ShelfRead};
 use rocks_text::FilePath;
 use std::alloc::Global;
@@ -23,7 +23,10 @@ pub struct FolderShelf<R: Files + AllocGlobal + Clone + Drop> {
 
 impl<R: Files + AllocGlobal + Clone + Drop> FolderShelf<R> {
     /// Servers in these folders, in this order.
-    pub fn new(rt: R, roots: Vec<String>) -> FolderShelf<R> {
+    pub fn new(rt: R, roots: Vec<String>) -> FolderShelf<R>
+        ensures roots { result.roots ≡ roots }
+        ensures faults { result.faults ≡ 0 }
+    {
         FolderShelf {
             rt,
             roots,
@@ -111,11 +114,17 @@ fn read_file<R: Files + AllocGlobal + Clone + Drop>(
     if disk::length(rt, at.as_str())? > u64::from(limit) {
         return Ok(ShelfRead::TooLong);
     }
-    let bytes = disk::read_whole(alloc, rt, root, path)?;
+    Ok(limited(disk::read_whole(alloc, rt, root, path)?, limit))
+}
+
+// What a read with this limit answers of a file with these bytes.
+fn limited(bytes: Vec<u8>, limit: u32) -> ShelfRead
+    ensures { IsRead limit (Some bytes.items) result }
+{
     if bytes.len() > limit as usize {
-        return Ok(ShelfRead::TooLong);
+        return ShelfRead::TooLong;
     }
-    Ok(ShelfRead::Bytes(bytes))
+    ShelfRead::Bytes(bytes)
 }
 
 fn list_files<R: Files + AllocGlobal + Clone + Drop>(
@@ -136,8 +145,5 @@ fn list_files<R: Files + AllocGlobal + Clone + Drop>(
     }
     let at = disk::join(alloc, root, folder.as_str())?;
     let names = disk::sorted_files(rt, at.as_str())?;
-    if !is_ascending(&names) || !are_apart(&names) {
-        return Err(ShelfError::Failed);
-    }
-    Ok(file_paths(alloc, folder, &names)?)
+    Ok(paths_below(alloc, folder, &names)?)
 }

@@ -17,19 +17,21 @@ use std::{env, io};
 use std_source::StdSource;
 
 /// Reads the words behind the program's name, makes the real folders and streams, and runs. It ends with the status's
-/// code, and prints a line to standard error for the codes from 2 on.
-fn main(rt: HostRuntime) -> io::Result<ExitCode> {
+/// code, also where standard error takes no line, and prints a line to it for the codes from 2 on.
+fn main(rt: HostRuntime) -> ExitCode {
     let status = answer(&rt);
     if let Some(line) = StatusLine::of(&status) {
-        eprintln!(rt; "{line}")?;
+        let _ = eprintln!(rt; "{line}");
     }
-    Ok(ExitCode::from(status.code()))
+    ExitCode::from(status.code())
 }
 
 fn answer(rt: &HostRuntime) -> Status {
     let alloc = rt.alloc();
-    let Ok(words) = words(rt) else {
-        return Status::BadWords;
+    let words = match words(rt) {
+        Ok(words) => words,
+        Err(error) if error.kind() == io::ErrorKind::OutOfMemory => return Status::NoMemory,
+        Err(_) => return Status::BadWords,
     };
     match roots(alloc, &words) {
         Ok(roots) => {

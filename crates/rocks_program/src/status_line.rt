@@ -1,3 +1,5 @@
+ghost use Rattle.rocks_program.specs.Lines.{IsLineOf};
+
 use rocks_session::Status;
 use thiserror::Error;
 
@@ -18,7 +20,9 @@ pub(crate) enum StatusLine<'a> {
 
 impl<'a> StatusLine<'a> {
     /// The line of a status. A run that carried its commands out has none.
-    pub(crate) fn of(status: &'a Status) -> Option<StatusLine<'a>> {
+    pub(crate) fn of(status: &'a Status) -> Option<StatusLine<'a>>
+        ensures { IsLineOf status.now result }
+    {
         match status {
             Status::Done | Status::Refused => None,
             Status::BadWords => Some(StatusLine::BadWords),

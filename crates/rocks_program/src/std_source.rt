@@ -12,7 +12,9 @@ pub struct StdSource<R: Input + Drop> {
 
 impl<R: Input + Drop> StdSource<R> {
     /// The standard input of the program.
-    pub fn new(rt: R) -> StdSource<R> {
+    pub fn new(rt: R) -> StdSource<R>
+        ensures { result.faults ≡ 0 }
+    {
         StdSource { rt, faults: 0 }
     }
 }
