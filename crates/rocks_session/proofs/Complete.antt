@@ -5,7 +5,8 @@ use Rattle.std.specs.FinMap.{len, entries, len-empty, len-entries}
 use Rattle.rocks_text.specs.Files.{Files, path_cmp}
 use Rattle.rocks_outside.specs.Counts.{HasRisen}
 use Rattle.tree_model.specs.Tree.{tree_of}
-use Rattle.rocks_session.specs.Run.{HasRunUnless, IsLeastPath}
+use Rattle.rocks_session.specs.Faults.{IsLeastPath}
+use Rattle.rocks_session.specs.Run.{HasRunUnless}
 use Rattle.rocks_session.specs.declared.status.Status.{Status}
 
 -- where a status has its cause, whatever the files are

@@ -20,9 +20,9 @@ use Rattle.rocks_text.specs.declared.item.Kind.TheVariants.{Lua}
 use Rattle.rocks_outside.specs.Device.{IsAscending}
 use Rattle.rocks_outside.specs.Shelf.{held_at, paths_below, held_below}
 use Rattle.tree_model.specs.Rock.{Rock}
-use Rattle.tree_model.specs.Tree.{plain_path, rockspec_name, rockspec_path}
+use Rattle.tree_model.specs.Tree.{plain_path, rockspec_name, rockspec_path, HaveOwnPaths}
 use Rattle.rocks_session.specs.Unpacked.{unpacked_folder, unpacked_path, unpacked_rockspec, is_file_within, is_taken, is_whole_taken, module_at, item_at}
-use Rattle.rocks_session.specs.Staged.{file_of, placed, AreTaken, IsNotTaken, IsFolderOffer, HaveOwnPaths, IsModule, StandFor}
+use Rattle.rocks_session.specs.Staged.{file_of, placed, AreTaken, IsNotTaken, IsFolderOffer, IsModule, StandFor}
 use Rattle.rocks_session.specs.declared.take.Offer.TheVariants.{Rock as Ready}
 use Rattle.rocks_session.specs.declared.take.Staged.{Staged}
 use Rattle.rocks_session.specs.declared.version.RockKey.{RockKey}

@@ -5,9 +5,9 @@ use Rattle.std.specs.FinMap.{empty}
 use Rattle.rocks_text.specs.Files.{Files}
 use Rattle.rocks_outside.specs.Told.{WhereTold}
 use Rattle.tree_model.specs.Rock.{Rock}
-use Rattle.tree_model.specs.Tree.{files_of, tree_of}
+use Rattle.tree_model.specs.Tree.{files_of, tree_of, HaveOwnPaths}
 use Rattle.rocks_session.specs.Unpacked.{unpacked}
-use Rattle.rocks_session.specs.Staged.{file_of, put_all, HaveOwnPaths, IsSound, IsOffer}
+use Rattle.rocks_session.specs.Staged.{file_of, put_all, IsSound, IsOffer}
 use Rattle.rocks_session.specs.Step.{step}
 use Rattle.rocks_session.specs.Run.{AreOfSet}
 use Rattle.rocks_session.specs.declared.take.Staged.{Staged}

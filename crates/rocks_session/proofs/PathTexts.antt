@@ -1,5 +1,5 @@
 -- Texts made of names and versions are parts of paths.
-use Rattle.std.proofs.Common.{◌≡◌, ◌≤◌, ◌<◌, ◌+◌, ℕ, zero, suc, Bool, true, false, ◌&&◌, ◌||◌, not, IsTrue, List, [], ◌∷◌, ◌++◌, length, refl, sym, ap, ◌∙◌, subst, arith, codes, slice_index, ◌==◌, nat_le, length-append, length-drop, take, drop, get_or, lit≤}
+use Rattle.std.proofs.Common.{◌≡◌, ◌≤◌, ◌<◌, ◌+◌, ℕ, zero, suc, Bool, true, false, ◌||◌, not, IsTrue, List, [], ◌∷◌, ◌++◌, length, refl, sym, ap, ◌∙◌, subst, arith, codes, slice_index, ◌==◌, nat_le, length-append, length-drop, take, drop, get_or, lit≤}
 use Rattle.std.proofs.lemmas.Bool.Decides.{nat_tests}
 use Rattle.std.proofs.lemmas.List.Folds.{list_all-append}
 use Rattle.std.proofs.lemmas.List.Sums.{split_at_first, passes_at_first}
@@ -10,6 +10,7 @@ use Rattle.std.specs.Char.{is_ascii_alphanumeric, is_ascii_digit}
 use Rattle.std.specs.Str.{bytes_eq}
 use Rattle.rocks_text.specs.Texts.{is_name_byte, is_name, is_part_byte, is_part, parts, is_file_path, is_tree_path}
 use Rattle.tree_model.specs.Tree.{rockspec_name, rockspec_path}
+use Rattle.tree_model.proofs.PlacePaths.{conj, both}
 use Rattle.rocks_session.specs.Unpacked.{unpacked_folder, unpacked_rockspec}
 use Rattle.rocks_session.specs.Version.{is_dash, is_body_byte, is_rock_version}
 
@@ -23,13 +24,6 @@ pub record IsWord (most : ℕ) (text : List ℕ) : Type 0 where
   pub few : length text ≤ most
   pub first : is_ascii_alphanumeric (slice_index text 0) ≡ true
   pub bytes : list_all is_word_byte text ≡ true
-
-pub conj : (x y : Bool) → (x && y) ≡ true → (x ≡ true) × (y ≡ true)
-conj true y e = (refl, e)
-conj false y e = cc
-
-both : (x y : Bool) → x ≡ true → y ≡ true → (x && y) ≡ true
-both x y e f = rw (e, f) refl
 
 weaker : (p q : ℕ → Bool) → ((b : ℕ) → p b ≡ true → q b ≡ true) → (text : List ℕ) → list_all p text ≡ true → list_all q text ≡ true
 weaker p q implies [] all = refl
@@ -175,27 +169,11 @@ module _ (name version : List ℕ) (is_named : IsWord 60 name) (is_versioned : I
       (parts_word 60 name rest is_named ∙ ap (λ (more : List (List ℕ)). name ∷ more) (parts_word 40 version file is_versioned ∙ ap (λ (more : List (List ℕ)). version ∷ more) (parts_one 110 file rockspec_word)))
       ∙ both _ _ (word_part 60 255 name is_named (lit≤ tt)) (both _ _ (word_part 40 255 version is_versioned (lit≤ tt)) (both _ _ (word_part 110 255 file rockspec_word (lit≤ tt)) refl)))
 
-larger_part : (part : List ℕ) → is_part 150 part ≡ true → is_part 255 part ≡ true
-larger_part part is =
-    let h4 = conj _ _ is in
-    let h3 = conj _ _ h4.0 in
-    let h2 = conj _ _ h3.0 in
-    let h1 = conj _ _ h2.0 in
-    let short : nat_le (length part) 150 ≡ true = h1.1 in
-    let few : nat_le (length part) 255 ≡ true = grind (arith, nat_tests) in
-    both _ _ (both _ _ (both _ _ (both _ _ h1.0 few) h2.1) h3.1) h4.1
-
-larger_parts : (ps : List (List ℕ)) → list_all (is_part 150) ps ≡ true → list_all (is_part 255) ps ≡ true
-larger_parts [] all = refl
-larger_parts (part ∷ ps) all =
-    let h = conj (is_part 150 part) (list_all (is_part 150) ps) all in
-    both _ _ (larger_part part h.0) (larger_parts ps h.1)
-
--- a module's place is a path in a tree
-pub module_in_tree : (path rest : List ℕ) → IsTrue (is_file_path path) → path ≡ codes "lua/" ++ rest → IsTrue (is_tree_path (codes "share/lua/5.4/" ++ rest))
-module_in_tree path rest is begins =
+-- what stands below a folder `lua` is a path
+pub behind_lua : (path rest : List ℕ) → IsTrue (is_file_path path) → path ≡ codes "lua/" ++ rest → IsTrue (is_file_path rest)
+behind_lua path rest is begins =
     let h : is_file_path (codes "lua/" ++ rest) ≡ true = subst (λ p. is_file_path p ≡ true) begins is in
     let both_h = conj _ _ h in
     let short : nat_le (length (codes "lua/" ++ rest)) 1024 ≡ true = both_h.0 in
-    let few : nat_le (length (codes "share/lua/5.4/" ++ rest)) 1200 ≡ true = grind (arith, nat_tests) in
-    both _ _ few (larger_parts (parts rest) both_h.1)
+    let few : nat_le (length rest) 1024 ≡ true = grind (arith, nat_tests) in
+    both _ _ few both_h.1

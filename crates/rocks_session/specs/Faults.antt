@@ -24,10 +24,14 @@ abbrev pub fault_of_shelf : shelf.ShelfError → SessionFault
 fault_of_shelf shelf_error.Failed = session_fault.ShelfFault
 fault_of_shelf shelf_error.NoMemory = session_fault.NoMemory
 
+-- the least path that the files have
+abbrev pub IsLeastPath : List ℕ → Files → Type 0
+IsLeastPath path files = (more : List (List ℕ)) × (keys files ≡ path ∷ more)
+
 -- A tree is damaged where the device has a file, and the path is the least one. A fault of the device comes only
 -- where the device has failed since.
 abbrev pub IsOpenFault : Option Files → (faults_before faults_now : ℕ) → OpenFault → Type 0
-IsOpenFault files before now (open_fault.Damaged path) = IfSome files (λ all. (more : List (List ℕ)) × (keys all ≡ path ∷ more))
+IsOpenFault files before now (open_fault.Damaged path) = IfSome files (IsLeastPath path)
 IsOpenFault files before now open_fault.DeviceFault = HasRisen before now
 IsOpenFault files before now open_fault.NoMemory = Unit {0}
 

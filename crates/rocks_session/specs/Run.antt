@@ -1,6 +1,5 @@
 -- What a run leaves. (This project's own.)
 use Rattle.std.specs.Prelude.{ℕ, ◌≡◌, ◌⊎◌, List, [], ◌∷◌, ◌++◌, map, take, codes, Option, None, Some, IsSome, IfSome, Result, Ok}
-use Rattle.std.specs.FinMap.{keys}
 use Rattle.rocks_text.specs.Files.{Files}
 use Rattle.rocks_outside.specs.Told.{WhereTold}
 use Rattle.tree_model.specs.Rock.{Rock}
@@ -83,10 +82,6 @@ code_of NoMemory = 3
 code_of DeviceFault = 4
 code_of ShelfFault = 5
 code_of (Damaged path) = 7
-
--- the least path that the files have
-abbrev pub IsLeastPath : List ℕ → Files → Type 0
-IsLeastPath path files = (more : List (List ℕ)) × (keys files ≡ path ∷ more)
 
 -- No more was said than a first part of the reply that the words ask for.
 abbrev pub SaysAtMost : Result Command WordsFault → Option (List Files) → (before now : Option (List ℕ)) → Type 0

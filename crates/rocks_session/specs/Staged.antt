@@ -1,11 +1,11 @@
 -- Files that wait to be written into a tree, and what a shelf offers.
-use Rattle.std.specs.Prelude.{IfSome, ℕ, ◌≡◌, ◌≢◌, ◌<◌, List, [], ◌∷◌, map, Option, None, Some, true, false, slice_get, codes, ◌&&◌}
-use Rattle.std.specs.List.{AllByRecursion, starts_with, list_all, filter_map}
+use Rattle.std.specs.Prelude.{IfSome, ℕ, ◌≡◌, ◌<◌, List, [], ◌∷◌, map, Option, None, Some, true, false, slice_get, codes, ◌&&◌}
+use Rattle.std.specs.List.{starts_with, list_all, filter_map}
 use Rattle.std.specs.Bool.{nat_eq}
 use Rattle.std.specs.FinMap.{insert, get, contains_key}
 use Rattle.rocks_text.specs.Files.{Files}
 use Rattle.tree_model.specs.Rock.{Rock}
-use Rattle.tree_model.specs.Tree.{files_of, plain_path, rockspec_path}
+use Rattle.tree_model.specs.Tree.{files_of, plain_path, rockspec_path, HaveOwnPaths}
 use Rattle.rocks_text.specs.declared.item.Item.{Item}
 use Rattle.rocks_session.specs.Unpacked.{earliest_with, offering, is_whole_taken, is_file_within, is_taken, module_at, item_at, unpacked, unpacked_rockspec}
 use Rattle.rocks_session.specs.declared.take.Staged.{Staged}
@@ -23,11 +23,6 @@ file_of staged = (staged.at, staged.bytes.items)
 abbrev pub put_all : List (List ℕ × List ℕ) → Files → Files
 put_all [] files = files
 put_all (file ∷ more) files = put_all more (insert files file.0 file.1)
-
--- no path stands twice
-abbrev pub HaveOwnPaths : List (List ℕ × List ℕ) → Type 0
-HaveOwnPaths [] = Unit {0}
-HaveOwnPaths (file ∷ more) = AllByRecursion (λ other. other.0 ≢ file.0) more × HaveOwnPaths more
 
 -- where the rockspec was found
 abbrev pub IsFoundIn : List Files → (path : List ℕ) → Found → Type 0

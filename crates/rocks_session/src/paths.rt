@@ -2,12 +2,12 @@
 ghost use Rattle.std.specs.Prelude.{◌≡◌, ◌++◌, ◌∷◌, IsTrue, IfOk, MatchOption, true, false, codes, drop, string_bytes};
 ghost use Rattle.std.specs.List.{starts_with};
 ghost use Rattle.std.specs.Bool.{nat_eq};
-ghost use Rattle.rocks_text.specs.Texts.{is_file_path, is_tree_path};
+ghost use Rattle.rocks_text.specs.Texts.{is_file_path};
 ghost use Rattle.tree_model.specs.Tree.{rockspec_name, rockspec_path};
 ghost use Rattle.rocks_session.specs.Unpacked.{unpacked_folder, unpacked_rockspec};
 
 use crate::RockKey;
-use rocks_text::{FilePath, TextFault, TreePath};
+use rocks_text::{FilePath, Item, Kind, TextFault, TreePath};
 use std::alloc::{AllocError, Global};
 
 /// `NAME-VERSION.rock`
@@ -24,9 +24,7 @@ pub(crate) fn unpacked_folder(alloc: Global, key: &RockKey) -> Result<FilePath, 
 pub(crate) fn rockspec_name(alloc: Global, key: &RockKey) -> Result<String, AllocError>
     ensures { IfOk result (λ text. string_bytes text ≡ rockspec_name key.now.name key.now.version) }
 {
-    let name = key.name.as_str();
-    let version = key.version.as_str();
-    Ok(format!(in alloc; "{name}-{version}.rockspec")?)
+    tree_model::rockspec_name(alloc, key.name.as_str(), key.version.as_str())
 }
 
 /// The rockspec in that folder.
@@ -53,12 +51,7 @@ pub(crate) fn below(alloc: Global, folder: &FilePath, path: &str) -> Result<File
 pub(crate) fn rockspec_place(alloc: Global, key: &RockKey) -> Result<TreePath, AllocError>
     ensures { IfOk result (λ path. path ≡ rockspec_path key.now.name key.now.version) }
 {
-    let name = key.name.as_str();
-    let version = key.version.as_str();
-    let text = format!(in alloc;
-        "lib/luarocks/rocks-5.4/{name}/{version}/{name}-{version}.rockspec"
-    )?;
-    tree_path(alloc, &text)
+    tree_model::rockspec_place(alloc, key.name.as_str(), key.version.as_str())
 }
 
 /// The place in a tree of a module with a path below `lua/`, or `None` for another path.
@@ -69,8 +62,11 @@ pub(crate) fn module_place(alloc: Global, path: &FilePath) -> Result<Option<Tree
     let Some(rest) = module_path(path.as_str()) else {
         return Ok(None);
     };
-    let text = format!(in alloc; "share/lua/5.4/{rest}")?;
-    Ok(Some(tree_path(alloc, &text)?))
+    let item = Item {
+        kind: Kind::Lua,
+        path: file_path(alloc, rest)?,
+    };
+    Ok(Some(tree_model::plain(alloc, &item)?))
 }
 
 fn module_path(path: &str) -> Option<&str>
@@ -85,17 +81,6 @@ fn file_path(alloc: Global, text: &str) -> Result<FilePath, AllocError>
     ensures { IfOk result (λ path. path ≡ text.now) }
 {
     match FilePath::from_text(alloc, text) {
-        Ok(path) => Ok(path),
-        Err(TextFault::NoMemory) => Err(AllocError),
-        Err(_) => unreachable!(),
-    }
-}
-
-fn tree_path(alloc: Global, text: &str) -> Result<TreePath, AllocError>
-    requires { IsTrue (is_tree_path text.now) }
-    ensures { IfOk result (λ path. path ≡ text.now) }
-{
-    match TreePath::from_text(alloc, text) {
         Ok(path) => Ok(path),
         Err(TextFault::NoMemory) => Err(AllocError),
         Err(_) => unreachable!(),

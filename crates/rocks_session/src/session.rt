@@ -1,7 +1,8 @@
 ghost use Rattle.std.specs.Prelude.{◌≡◌, ◌⊎◌, [], map, IfSome, IsErr, Ok, string_bytes};
 ghost use Rattle.rocks_outside.specs.Counts.{HasRisen};
 ghost use Rattle.tree_model.specs.Tree.{tree_of};
-ghost use Rattle.rocks_session.specs.Run.{HasRun, HasRunUnless, CarriesOut, IsLeastPath, SaysAtMost};
+ghost use Rattle.rocks_session.specs.Faults.{IsLeastPath};
+ghost use Rattle.rocks_session.specs.Run.{HasRun, HasRunUnless, CarriesOut, SaysAtMost};
 ghost use Rattle.rocks_session.specs.Step.{step};
 ghost use Rattle.rocks_session.specs.Words.{command_of};
 

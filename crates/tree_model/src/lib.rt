@@ -1,11 +1,12 @@
-//! What files a tree has: a definition, in `specs/`, by the set of the rocks that are installed in it.
+//! What files a tree has: a definition, in `specs/`, by the set of the rocks that are installed in it, and the calls
+//! that answer where each file stands.
 #![tactic(auto)]
 
-ghost use Rattle.std.specs.Prelude.{◌≡◌, []};
-ghost use Rattle.std.specs.FinMap.{empty};
-ghost use Rattle.tree_model.specs.Tree.{tree_of};
+mod laws;
+mod places;
 
-/// The tree of the empty set has no file. (A law: the function does nothing.)
-pub fn empty_set_has_no_file()
-    ensures { tree_of [] ≡ empty }
-{}
+pub use laws::{a_tree_has_the_files_of_its_rocks, empty_set_has_no_file};
+pub use places::{plain, rockspec_name, rockspec_place};
+
+#[cfg(test)]
+mod tests;

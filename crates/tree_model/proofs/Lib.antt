@@ -1,0 +1,2 @@
+pub mod PlacePaths
+mod TreeFiles
