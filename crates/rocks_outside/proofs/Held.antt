@@ -141,6 +141,19 @@ ascending_from_sorted (path ∷ []) h = tt
 ascending_from_sorted (path ∷ next ∷ paths) h =
     ((sorted_head path_cmp path (next ∷ paths) h).0, ascending_from_sorted (next ∷ paths) (sorted_tail path_cmp path (next ∷ paths) h))
 
+-- what is below a path is below all paths above that one
+below_later : (path next : List ℕ) (paths : List (List ℕ)) → path_cmp path next ≡ Less → AllByRecursion (λ other. path_cmp next other ≡ Less) paths → AllByRecursion (λ other. path_cmp path other ≡ Less) paths
+below_later path next [] below all = tt
+below_later path next (other ∷ paths) below all = (total.trans path next other below all.0, below_later path next paths below all.1)
+
+pub sorted_from_ascending : (paths : List (List ℕ)) → IsAscending paths → IsStrictlySortedBy path_cmp paths
+unfolding IsStrictlySortedBy
+sorted_from_ascending [] ascending = tt
+sorted_from_ascending (path ∷ []) ascending = (tt, tt)
+sorted_from_ascending (path ∷ next ∷ paths) ascending =
+    let behind = sorted_from_ascending (next ∷ paths) ascending.1 in
+    ((ascending.0, below_later path next paths ascending.0 behind.0), behind)
+
 pub all_pass-filter : (test : List ℕ → Bool) (paths : List (List ℕ)) → AllByRecursion (λ path. IsTrue (test path)) (filter test paths)
 all_pass-filter test [] = tt
 all_pass-filter test (path ∷ paths) =

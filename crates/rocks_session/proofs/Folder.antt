@@ -4,6 +4,7 @@ use Rattle.std.proofs.lemmas.List.{append-nil, map-append}
 use Rattle.std.proofs.lemmas.List.Elements.{filter_map-append}
 use Rattle.std.proofs.lemmas.List.Folds.{list_all-append, list_all_at}
 use Rattle.std.proofs.lemmas.Bool.Decides.{Decides-eqb}
+use Rattle.std.proofs.lemmas.Map.Keys.{sorted_head}
 use Rattle.std.proofs.lemmas.Slice.Eq.{bytes_eq-Decides, starts_is}
 use Rattle.std.specs.List.{list_all, filter_map, starts_with, AllByRecursion}
 use Rattle.std.specs.Bool.{nat_eq}
@@ -19,6 +20,8 @@ use Rattle.rocks_text.specs.declared.item.Item.{Item}
 use Rattle.rocks_text.specs.declared.item.Kind.TheVariants.{Lua}
 use Rattle.rocks_outside.specs.Device.{IsAscending}
 use Rattle.rocks_outside.specs.Shelf.{held_at, paths_below, held_below}
+use Rattle.rocks_outside.proofs.Held.{sorted_from_ascending}
+use Rattle.tree_model.proofs.PlacePaths.{both}
 use Rattle.tree_model.specs.Rock.{Rock}
 use Rattle.tree_model.specs.Tree.{plain_path, rockspec_name, rockspec_path, HaveOwnPaths}
 use Rattle.rocks_session.specs.Unpacked.{unpacked_folder, unpacked_path, unpacked_rockspec, is_file_within, is_taken, is_whole_taken, module_at, item_at}
@@ -26,9 +29,6 @@ use Rattle.rocks_session.specs.Staged.{file_of, placed, AreTaken, IsNotTaken, Is
 use Rattle.rocks_session.specs.declared.take.Offer.TheVariants.{Rock as Ready}
 use Rattle.rocks_session.specs.declared.take.Staged.{Staged}
 use Rattle.rocks_session.specs.declared.version.RockKey.{RockKey}
-
-both : (x y : Bool) → x ≡ true → y ≡ true → (x && y) ≡ true
-both x y e f = rw (e, f) refl
 
 module _ (key : RockKey) (spec : List ℕ) (server : ℕ) where
   -- before the first file
@@ -133,12 +133,7 @@ module _ (key : RockKey) (spec : List ℕ) (server : ℕ) where
       cc (sym tie ∙ turned ∙ ap ordering_reverse tie)
 
   later_paths : (p : List ℕ) (ps : List (List ℕ)) → IsAscending (p ∷ ps) → AllByRecursion (λ q. path_cmp p q ≡ Less) ps
-  later_paths p [] up = tt
-  later_paths p (q ∷ ps) up = (up.0, after ps (later_paths q ps up.1))
-    where
-      after : (rs : List (List ℕ)) → AllByRecursion (λ r. path_cmp q r ≡ Less) rs → AllByRecursion (λ r. path_cmp p r ≡ Less) rs
-      after [] all = tt
-      after (r ∷ rs) all = (nat_list_cmp_total.trans p q r up.0 all.0, after rs all.1)
+  later_paths p ps up = sorted_head path_cmp p ps (sorted_from_ascending (p ∷ ps) up)
 
   rest_up : (p : List ℕ) (ps : List (List ℕ)) → IsAscending (p ∷ ps) → IsAscending ps
   rest_up p [] up = tt

@@ -3,7 +3,6 @@ use Rattle.std.proofs.Common.{◌≡◌, ◌+◌, ℕ, Bool, true, false, ◌&&�
 use Rattle.std.proofs.lemmas.List.{drop_at}
 use Rattle.std.proofs.lemmas.Bool.Decides.{Decides-eqb}
 use Rattle.std.proofs.lemmas.Slice.Eq.{starts_is, bytes_eq-Decides}
-use Rattle.std.proofs.lemmas.Map.Text.{is_eq-slice_cmp}
 use Rattle.std.specs.List.{list_all, list_any, filter_map, starts_with, cons_option}
 use Rattle.std.specs.Bool.{nat_eq}
 use Rattle.std.specs.Str.{bytes_eq}
@@ -11,6 +10,7 @@ use Rattle.std.specs.Ordering.{eq_by_cmp}
 use Rattle.std.specs.FinMap.{get, contains_key, keys, contains_key-keys}
 use Rattle.rocks_text.specs.Files.{Files, path_cmp}
 use Rattle.rocks_outside.specs.Shelf.{below}
+use Rattle.tree_model.proofs.PathTies.{by_bool, tied}
 use Rattle.tree_model.specs.Tree.{rockspec_name}
 use Rattle.rocks_session.specs.Unpacked.{unpacked_folder, unpacked_rockspec, is_file_within, is_taken, is_whole_taken}
 use Rattle.rocks_session.specs.Staged.{IsFoundIn, IsFolderOffer, IsOffer}
@@ -39,19 +39,12 @@ refused_later test (Some path) paths e = later (test path) _ e
     later true rest f = f
     later false rest f = refl
 
-same_path : (p q : List ℕ) → eq_by_cmp path_cmp p q ≡ true → p ≡ q
-same_path p q e = (bytes_eq-Decides p q).0 (sym (is_eq-slice_cmp p q) ∙ e)
-
-by_bool : {P : Type 0} (b : Bool) → (b ≡ true → P) → (b ≡ false → P) → P
-by_bool true here there = here refl
-by_bool false here there = there refl
-
 -- a path that is there is listed, and refuses the folder
 refuses : (test : List ℕ → Bool) (folder path : List ℕ) (ks : List (List ℕ)) → list_any (eq_by_cmp path_cmp (folder ++ 47 ∷ path)) ks ≡ true → test path ≡ false → list_all test (filter_map (below folder) ks) ≡ false
 refuses test folder path [] there fails = cc
 refuses test folder path (k ∷ ks) there fails = by_bool (eq_by_cmp path_cmp (folder ++ 47 ∷ path) k)
     (λ e.
-    let is : below folder k ≡ Some path = ap (below folder) (sym (same_path (folder ++ 47 ∷ path) k e)) ∙ below_itself folder path in
+    let is : below folder k ≡ Some path = ap (below folder) (sym (tied (folder ++ 47 ∷ path) k e)) ∙ below_itself folder path in
     rw is (refused_by (test path) _ fails))
     (λ e. refused_later test (below folder k) (filter_map (below folder) ks) (refuses test folder path ks (rw e at there) fails))
 

@@ -1,13 +1,12 @@
 -- Files that are put one after another over no files, each at a path of its own, make the map of them.
-use Rattle.std.proofs.Common.{◌≡◌, ◌≢◌, ℕ, Bool, true, false, cond, List, [], ◌∷◌, Option, None, Some, refl, sym, ap, ◌∙◌}
+use Rattle.std.proofs.Common.{◌≡◌, ◌≢◌, ℕ, cond, List, [], ◌∷◌, Option, None, Some, refl, sym, ap, ◌∙◌}
 use Rattle.std.proofs.lemmas.List.{append-nil}
-use Rattle.std.proofs.lemmas.Slice.Eq.{bytes_eq-Decides}
-use Rattle.std.proofs.lemmas.Map.Text.{is_eq-slice_cmp}
 use Rattle.std.specs.List.{AllByRecursion}
 use Rattle.std.specs.Ordering.{eq_by_cmp}
 use Rattle.std.specs.Cmp.Lexicographic.{nat_list_cmp_total}
 use Rattle.std.specs.FinMap.{get, insert, empty, from_entries, find, get-insert, get-empty, get-from_entries, same_map, slice_cmp-IsAntisymmetric, nat_cmp-IsAntisymmetric}
 use Rattle.rocks_text.specs.Files.{Files, path_cmp}
+use Rattle.tree_model.proofs.PathTies.{by_bool, tied, untied}
 use Rattle.tree_model.specs.Rock.{Rock}
 use Rattle.tree_model.specs.Tree.{files_of, tree_of, HaveOwnPaths}
 use Rattle.rocks_session.specs.Staged.{put_all}
@@ -19,19 +18,6 @@ File = List ℕ × List ℕ
 abbrev or_else : Option (List ℕ) → Option (List ℕ) → Option (List ℕ)
 or_else None other = other
 or_else (Some x) other = Some x
-
-by_bool : {P : Type 0} (b : Bool) → (b ≡ true → P) → (b ≡ false → P) → P
-by_bool true here there = here refl
-by_bool false here there = there refl
-
-tied : (p q : List ℕ) → eq_by_cmp path_cmp p q ≡ true → p ≡ q
-tied p q e = (bytes_eq-Decides p q).0 (sym (is_eq-slice_cmp p q) ∙ e)
-
-ties : (p q : List ℕ) → p ≡ q → eq_by_cmp path_cmp p q ≡ true
-ties p q e = is_eq-slice_cmp p q ∙ (bytes_eq-Decides p q).1 e
-
-untied : (p q : List ℕ) → p ≢ q → eq_by_cmp path_cmp p q ≡ false
-untied p q other = by_bool (eq_by_cmp path_cmp p q) (λ e. absurd (other (tied p q e))) (λ e. e)
 
 -- a path that none of the others has isn't found among them
 not_found : (q : List ℕ) (files : List File) → AllByRecursion (λ other. other.0 ≢ q) files → find path_cmp q files ≡ None

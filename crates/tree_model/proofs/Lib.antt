@@ -1,2 +1,3 @@
+pub mod PathTies
 pub mod PlacePaths
 mod TreeFiles

@@ -1,28 +1,17 @@
 -- What stands at a path in a tree, by the files that its rocks bring.
-use Rattle.std.proofs.Common.{◌≡◌, ◌≢◌, ℕ, zero, suc, Bool, true, false, List, [], ◌∷◌, Some, cond, refl, sym, ap, subst, ◌∙◌, arith}
+use Rattle.std.proofs.Common.{◌≡◌, ◌≢◌, ℕ, zero, suc, true, false, List, [], ◌∷◌, Some, cond, refl, sym, ap, subst, ◌∙◌, arith}
 use Rattle.std.proofs.lemmas.Cmp.{nat_list_cmp_total}
-use Rattle.std.proofs.lemmas.Map.Text.{is_eq-slice_cmp}
-use Rattle.std.proofs.lemmas.Slice.Eq.{bytes_eq-Decides}
 use Rattle.std.specs.FinMap.{get, get-from_entries}
 use Rattle.std.specs.FinMap.Entries.{find}
 use Rattle.std.specs.List.{flat_map, AllByRecursion, Contains}
 use Rattle.std.specs.Ordering.{eq_by_cmp}
 use Rattle.rocks_text.specs.Files.{path_cmp}
 use Rattle.tree_model.specs.Rock.{Rock}
+use Rattle.tree_model.proofs.PathTies.{tied, ties, untied}
 use Rattle.tree_model.specs.Tree.{tree_of, files_of, HaveOwnPaths}
 
 abbrev File : Type 0
 File = List ℕ × List ℕ
-
-same_path : (path other : List ℕ) → eq_by_cmp path_cmp path other ≡ true → path ≡ other
-same_path path other is = (bytes_eq-Decides path other).0 (sym (is_eq-slice_cmp path other) ∙ is)
-
-itself : (path : List ℕ) → eq_by_cmp path_cmp path path ≡ true
-itself path = is_eq-slice_cmp path path ∙ (bytes_eq-Decides path path).1 refl
-
-differs : (t : Bool) (path other : List ℕ) → eq_by_cmp path_cmp path other ≡ t → path ≢ other → t ≡ false
-differs true path other is apart = absurd (apart (same_path path other is))
-differs false path other is apart = refl
 
 pair_is : (file : File) (path bytes : List ℕ) → file.0 ≡ path → file.1 ≡ bytes → file ≡ (path, bytes)
 pair_is (p, b) path bytes first second = rw (first, second) refl
@@ -38,7 +27,7 @@ all_at P (file ∷ files) x all (suc k, within, is) = all_at P files x all.1 (k,
 found_among : (files : List File) (path bytes : List ℕ) → find path_cmp path files ≡ Some bytes → Contains files (path, bytes)
 found_among [] path bytes is = absurd cc
 found_among (file ∷ files) path bytes is = elim (eq_by_cmp path_cmp path file.0) as (λ t. eq_by_cmp path_cmp path file.0 ≡ t → cond t (Some file.1) (find path_cmp path files) ≡ Some bytes → Contains (file ∷ files) (path, bytes)) [
-  | true ↦ λ t found. let second : file.1 ≡ bytes = cc in (0, omega arith, pair_is file path bytes (sym (same_path path file.0 t)) second)
+  | true ↦ λ t found. let second : file.1 ≡ bytes = cc in (0, omega arith, pair_is file path bytes (sym (tied path file.0 t)) second)
   | false ↦ λ t found. behind file files (path, bytes) (found_among files path bytes found)
 ] refl is
 
@@ -47,12 +36,12 @@ among_found [] path bytes own (k, within, is) = absurd (omega arith)
 among_found (file ∷ files) path bytes own (zero, within, is) =
     let first : path ≡ file.0 = sym (ap (λ (f : File). f.0) is) in
     let second : file.1 ≡ bytes = ap (λ (f : File). f.1) is in
-    let here : eq_by_cmp path_cmp path file.0 ≡ true = subst (λ other. eq_by_cmp path_cmp path other ≡ true) first (itself path) in
+    let here : eq_by_cmp path_cmp path file.0 ≡ true = ties path file.0 first in
     rw here (ap Some second)
 among_found (file ∷ files) path bytes own (suc k, within, is) =
     let inside : Contains files (path, bytes) = (k, omega arith, is) in
     let apart : path ≢ file.0 = all_at (λ other. other.0 ≢ file.0) files (path, bytes) own.0 inside in
-    let other : eq_by_cmp path_cmp path file.0 ≡ false = differs _ path file.0 refl apart in
+    let other : eq_by_cmp path_cmp path file.0 ≡ false = untied path file.0 apart in
     rw other (among_found files path bytes own.1 inside)
 
 pub only : (rocks : List Rock) (path bytes : List ℕ) → get (tree_of rocks) path ≡ Some bytes → Contains (flat_map files_of rocks) (path, bytes)
