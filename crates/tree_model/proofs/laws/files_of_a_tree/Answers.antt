@@ -1,5 +1,5 @@
 use Rattle.tree_model.proofs.TreeFiles.{only, each}
-use Rattle.tree_model.proofs.laws.a_tree_has_the_files_of_its_rocks.Goals as goal
+use Rattle.tree_model.proofs.laws.files_of_a_tree.Goals as goal
 
 pub returns-clause-only : goal.returns-clause-only
 returns-clause-only c = only
