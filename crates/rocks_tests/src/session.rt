@@ -1,8 +1,10 @@
+//! Whole runs over objects in memory.
+
 mod failing;
 
-use super::*;
 use failing::{FailingDevice, FailingShelf};
 use rocks_outside::{Device, MemoryDevice, MemoryShelf, MemorySource, Shelf};
+use rocks_session::{Command, Status, read_words, roots, run};
 use rocks_text::{FilePath, TreePath};
 use std::alloc::Global;
 use std::process::Abort;
@@ -185,12 +187,22 @@ fn faulty_words_call_nothing(rt: HostRuntime) -> Result<(), Fail> {
     let alloc = rt.alloc();
     let mut shelf = hello(&rt, alloc)?;
     let mut device = MemoryDevice::new(alloc)?;
-    let lines =
-        "|add hello 1.0-1|--tree T|--tree T add|--tree T add hello|--tree T add hello 1.0|--tree T add hello 1.0-1 x\
-|--tree T add manifest 1.0-1|--tree T add hello 1.0-1234567890123456789|--from S --tree T add hello 1.0-1\
-|--tree T --from 1 --from 2 --from 3 --from 4 --from 5 --from 6 --from 7 --from 8 --from 9 add hello 1.0-1\
-|--tree T add --tree x|--tree T remove hello";
-    for line in lines.split('|') {
+    for line in [
+        "",
+        "add hello 1.0-1",
+        "--tree T",
+        "--tree T add",
+        "--tree T add hello",
+        "--tree T add hello 1.0",
+        "--tree T add hello 1.0-1 x",
+        "--tree T add manifest 1.0-1",
+        "--tree T add hello 1.0-1234567890123456789",
+        "--from S --tree T add hello 1.0-1",
+        "--tree T --from 1 --from 2 --from 3 --from 4 --from 5 --from 6 --from 7 --from 8 --from 9 \
+add hello 1.0-1",
+        "--tree T add --tree x",
+        "--tree T remove hello",
+    ] {
         let _ = runs(&rt, alloc, &mut device, &mut shelf, line, 2, "")?;
     }
     assert_eq!(rt; device.clock(), 0);
@@ -201,13 +213,35 @@ fn faulty_words_call_nothing(rt: HostRuntime) -> Result<(), Fail> {
 fn words_name_the_tree_and_the_servers(rt: HostRuntime) -> Result<(), Fail> {
     let alloc = rt.alloc();
     let words = words(alloc, "--tree T --from S --from --tree add a_B 1.0.rc-2")?;
-    let roots = roots(alloc, &words).ok().ok_or("refused")?;
+    let roots = roots(alloc, &words).ok().ok_or("refused")?.copy(alloc)?;
     assert_eq!(rt; roots.tree.as_str(), "T");
     assert_eq!(rt; roots.servers.len(), 2);
-    let Command::Add(key) = read_words(alloc, &words).ok().ok_or("refused")?;
+    let command = read_words(alloc, &words).ok().ok_or("refused")?;
+    let Command::Add(key) = command.copy(alloc)?;
     let copied = key.copy(alloc)?;
     assert_eq!(rt; copied.name.as_str(), "a_b");
     assert_eq!(rt; copied.version.as_str(), "1.0.rc-2");
+    Ok(())
+}
+
+// Clauses can't speak yet of what a crash may leave, so the order of the calls is looked at.
+#[test]
+fn what_is_written_is_synced_and_then_said(rt: HostRuntime) -> Result<(), Fail> {
+    let alloc = rt.alloc();
+    for (line, calls) in [
+        (
+            "--tree T --from S add hello 1.0-1",
+            ["list", "write", "write", "write", "sync", "say"].as_slice(),
+        ),
+        ("--tree T --from S add hello 2.0-1", ["list", "say"].as_slice()),
+        ("--tree T --from S add lua 5.4-1", ["list", "say"].as_slice()),
+    ] {
+        let mut shelf = hello(&rt, alloc)?;
+        let mut device = FailingDevice::new(alloc, u64::MAX);
+        let mut input = MemorySource::new(Vec::new(alloc), 1, None);
+        let _ = run(alloc, &words(alloc, line)?, &mut device, &mut shelf, &mut input);
+        assert!(rt; device.calls.as_slice() == calls, "{line}");
+    }
     Ok(())
 }
 

@@ -1,19 +1,28 @@
-use super::*;
+//! Names, paths and items.
+
+use rocks_text::{FilePath, Item, Kind, Name, TextFault, TreePath};
 use std::alloc::{AllocError, Global};
 use std::cmp::Ordering;
 use std::test::Fail;
 
-// Texts stand between `|`; the first of those that are refused is the empty one.
-const NAMES: &str = "a|z|0|9|az09_-.|a.|a..b|manifes|manifests|anifest";
+const NAMES: [&str; 10] = [
+    "a", "z", "0", "9", "az09_-.", "a.", "a..b", "manifes", "manifests", "anifest",
+];
 
-const NO_NAMES: &str =
-    "|_|-|.|..|_a|-a|.a|manifest|MANIFEST|manifesT|a@|a[|a`|a{|a/|a:|a,|a^|a b|/a|a\\|a\0|a\u{1f}|a\u{7f}|a\u{e9}|\u{c9}a";
+const NO_NAMES: [&str; 29] = [
+    "", "_", "-", ".", "..", "_a", "-a", ".a", "manifest", "MANIFEST", "manifesT", "a@", "a[", "a`", "a{", "a/", "a:",
+    "a,", "a^", "a b", "/a", "a\\", "a\0", "a\u{1f}", "a\u{7f}", "a\u{e9}", "\u{c9}a", " a", "a\n",
+];
 
-const PATHS: &str =
-    "a|A/B|manifest|...|.a|a.|..a|a..|a/.b|a/b./c|a b| |a~b|a[]b|\u{80}|\u{e9}/\u{e9}";
+const PATHS: [&str; 18] = [
+    "a", "A/B", "manifest", "...", ".a", "a.", "..a", "a..", "a/.b", "a/b./c", "a b", " ", "~b", "a[]b", "\u{80}",
+    "\u{e9}/\u{e9}", "-", "a-b/c",
+];
 
-const NO_PATHS: &str =
-    "|/|//|/a|a/|a//b|.|..|./a|../a|a/.|a/..|a/./b|a/../b|\\|a\\b|a\0b|a\u{1f}b|a\u{7f}b|a/\u{1f}|\u{7f}/a";
+const NO_PATHS: [&str; 22] = [
+    "", "/", "//", "/a", "a/", "a//b", ".", "..", "./a", "../a", "a/.", "a/..", "a/./b", "a/../b", "\\", "a\\b",
+    "a\0b", "a\u{1f}b", "a\u{7f}b", "a/\u{1f}", "\u{7f}/a", "a\n",
+];
 
 /// The name that a text stands for, read from a copy of it.
 fn name_of(alloc: Global, text: &str) -> Result<String, TextFault> {
@@ -59,10 +68,10 @@ fn item(alloc: Global, kind: Kind, path: &str) -> Result<Item, TextFault> {
 #[test]
 fn names_end_at_their_edges(rt: HostRuntime) -> Result<(), Fail> {
     let alloc = rt.alloc();
-    for text in NAMES.split('|') {
+    for text in NAMES {
         assert_eq!(rt; name_of(alloc, text)?.as_str(), text);
     }
-    for text in NO_NAMES.split('|') {
+    for text in NO_NAMES {
         assert_eq!(rt;
             Name::from_text(alloc, text),
             Err(TextFault::BadName),
@@ -86,11 +95,11 @@ fn names_end_at_their_edges(rt: HostRuntime) -> Result<(), Fail> {
 #[test]
 fn paths_end_at_their_edges(rt: HostRuntime) -> Result<(), Fail> {
     let alloc = rt.alloc();
-    for text in PATHS.split('|') {
+    for text in PATHS {
         assert!(rt; is_file_path(alloc, text)?, "{text:?}");
         assert!(rt; is_tree_path(alloc, text)?, "{text:?}");
     }
-    for text in NO_PATHS.split('|') {
+    for text in NO_PATHS {
         assert_eq!(rt;
             FilePath::from_text(alloc, text),
             Err(TextFault::BadPath),
@@ -170,5 +179,23 @@ fn items_go_by_kind_and_then_by_path(rt: HostRuntime) -> Result<(), Fail> {
         assert!(rt; first < second, "{low_path}");
         assert_eq!(rt; second.copy(alloc)?, second);
     }
+    Ok(())
+}
+
+#[test]
+fn paths_join_and_part_again(rt: HostRuntime) -> Result<(), Fail> {
+    let alloc = rt.alloc();
+    for (folder, path, whole) in [("a", "b", "a/b"), ("a/b", "c/d", "a/b/c/d"), ("a-", "b", "a-/b")] {
+        let folder = FilePath::from_text(alloc, folder)?;
+        let joined = FilePath::from_text(alloc, whole)?;
+        assert_eq!(rt; joined.below(&folder), Some(path));
+        assert_eq!(rt; folder.below(&joined), None);
+        assert_eq!(rt; folder.below(&folder), None);
+    }
+    let folder = FilePath::from_text(alloc, "a")?;
+    assert_eq!(rt; FilePath::from_text(alloc, "a-b/c")?.below(&folder), None);
+    assert_eq!(rt; FilePath::joined(alloc, &folder, "b/c")?.as_str(), "a/b/c");
+    assert_eq!(rt; FilePath::known(alloc, "a/b")?.as_str(), "a/b");
+    assert_eq!(rt; TreePath::known(alloc, "a/b")?.as_str(), "a/b");
     Ok(())
 }

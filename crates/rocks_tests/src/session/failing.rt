@@ -1,4 +1,4 @@
-//! Objects that fail at one chosen call. Contracts learn nothing of what they hold.
+//! Objects that note their calls and fail at one chosen one. Contracts learn nothing of what they hold.
 
 use rocks_outside::{Device, DeviceError, MemoryShelf, Shelf, ShelfError, ShelfRead};
 use rocks_text::{FilePath, TreePath};
@@ -12,12 +12,13 @@ struct Fuse {
 }
 
 impl Fuse {
-    ghost use Rattle.std.specs.Prelude.{◌≤◌, IsTrue};
+    ghost use Rattle.std.specs.Prelude.{◌≡◌, ◌≤◌, true, false};
     ghost use Rattle.rocks_outside.specs.Counts.{HasRisen};
 
     fn burns(&mut self) -> bool
-        ensures faults { self.old.faults ≤ self.new.faults }
-        ensures cause { IsTrue result → HasRisen self.old.faults self.new.faults }
+        ensures rises { self.old.faults ≤ self.new.faults }
+        ensures risen { result ≡ true → HasRisen self.old.faults self.new.faults }
+        ensures stands { result ≡ false → self.new.faults ≡ self.old.faults }
     {
         if self.calls_left > 0 {
             self.calls_left -= 1;
@@ -28,10 +29,11 @@ impl Fuse {
     }
 }
 
-/// An empty tree. It keeps what is said to it, and no file.
+/// An empty tree. It keeps what is said to it and the names of its calls, and no file.
 #[derive(Drop)]
 pub struct FailingDevice {
     pub said: Vec<u8>,
+    pub calls: Vec<&'static str>,
     fuse: Fuse,
     clock: u64,
     looks: u64,
@@ -41,6 +43,7 @@ impl FailingDevice {
     pub fn new(alloc: Global, calls_left: u64) -> FailingDevice {
         FailingDevice {
             said: Vec::new(alloc),
+            calls: Vec::new(alloc),
             fuse: Fuse {
                 calls_left,
                 faults: 0,
@@ -52,16 +55,15 @@ impl FailingDevice {
 }
 
 impl FailingDevice {
-    ghost use Rattle.std.specs.Prelude.{◌≡◌, ◌≤◌, None, IsErrOf};
-    ghost use Rattle.rocks_outside.specs.Counts.{HasRisen};
-    ghost use Rattle.rocks_outside.specs.Device.{IsCounted, Ticks};
+    ghost use Rattle.std.specs.Prelude.{◌≡◌, None};
+    ghost use Rattle.rocks_outside.specs.Device.{IsCounted, Ticks, CountsFaults};
 
-    fn look(&mut self) -> Result<(), DeviceError>
+    fn look(&mut self, call: &'static str) -> Result<(), DeviceError>
         ensures looks { IsCounted result self.old.looks self.new.looks }
         ensures clock { self.new.clock ≡ self.old.clock }
-        ensures faults { self.old.fuse.faults ≤ self.new.fuse.faults }
-        ensures cause { IsErrOf result DeviceError.Failed → HasRisen self.old.fuse.faults self.new.fuse.faults }
+        ensures faults { CountsFaults result self.old.fuse.faults self.new.fuse.faults }
     {
+        self.calls.push(call)?;
         self.looks = self.looks.saturating_add(1);
         if self.fuse.burns() {
             return Err(DeviceError::Failed);
@@ -69,12 +71,12 @@ impl FailingDevice {
         Ok(())
     }
 
-    fn tick(&mut self) -> Result<(), DeviceError>
+    fn tick(&mut self, call: &'static str) -> Result<(), DeviceError>
         ensures clock { Ticks result None self.old.clock self.new.clock }
         ensures looks { self.new.looks ≡ self.old.looks }
-        ensures faults { self.old.fuse.faults ≤ self.new.fuse.faults }
-        ensures cause { IsErrOf result DeviceError.Failed → HasRisen self.old.fuse.faults self.new.fuse.faults }
+        ensures faults { CountsFaults result self.old.fuse.faults self.new.fuse.faults }
     {
+        self.calls.push(call)?;
         self.clock = self.clock.saturating_add(1);
         if self.fuse.burns() {
             return Err(DeviceError::Failed);
@@ -86,46 +88,41 @@ impl FailingDevice {
 impl Device for FailingDevice {
     ghost use Rattle.std.specs.Prelude.{None};
 
-    ghost files = { λ _. None };
+    ghost state = { λ d. record {
+        files = None; said = None; clock = d.clock; looks = d.looks; faults = d.fuse.faults } };
 
-    ghost said = { λ _. None };
-
-    ghost clock = { λ d. d.clock };
-
-    ghost looks = { λ d. d.looks };
-
-    ghost faults = { λ d. d.fuse.faults };
+    ghost tells = { λ _ _. record { files = tt; said = tt } };
 
     fn read(&mut self, _alloc: Global, _path: &TreePath) -> Result<Option<Vec<u8>>, DeviceError> {
-        self.look()?;
+        self.look("read")?;
         Ok(None)
     }
 
     fn list(&mut self, alloc: Global, _prefix: &str) -> Result<Vec<TreePath>, DeviceError> {
-        self.look()?;
+        self.look("list")?;
         Ok(Vec::new(alloc))
     }
 
     fn write(&mut self, _path: &TreePath, _bytes: &[u8]) -> Result<(), DeviceError> {
-        self.tick()
+        self.tick("write")
     }
 
     fn rename(&mut self, _from: &TreePath, _to: &TreePath) -> Result<(), DeviceError> {
-        self.tick()
+        self.tick("rename")
     }
 
     fn remove(&mut self, _path: &TreePath) -> Result<(), DeviceError> {
-        self.tick()
+        self.tick("remove")
     }
 
     fn sync(&mut self) -> Result<(), DeviceError> {
-        self.tick()
+        self.tick("sync")
     }
 
     // A call that fails has said a first part.
     fn say(&mut self, bytes: &[u8]) -> Result<(), DeviceError> {
         self.said.extend_from_slice(bytes)?;
-        let answer = self.tick();
+        let answer = self.tick("say");
         if answer.is_err() {
             self.said.truncate(1);
         }
@@ -156,11 +153,8 @@ impl Shelf for FailingShelf {
     ghost use Rattle.std.specs.Prelude.{None, length};
     ghost use Rattle.rocks_outside.specs.Memory.{shelf_holds};
 
-    ghost holds = { λ _. None };
-
-    ghost server_count = { λ shelf. length (shelf_holds shelf.servers) };
-
-    ghost faults = { λ shelf. shelf.fuse.faults };
+    ghost state = { λ shelf. record {
+        holds = None; servers = length (shelf_holds shelf.servers); faults = shelf.fuse.faults } };
 
     fn servers(&self) -> u32 {
         self.servers.servers()

@@ -1,0 +1,13 @@
+//! Tests that go by public calls of several crates.
+#![tactic(auto)]
+
+#[cfg(test)]
+mod calls;
+#[cfg(test)]
+mod outside;
+#[cfg(test)]
+mod places;
+#[cfg(test)]
+mod session;
+#[cfg(test)]
+mod texts;
