@@ -1,7 +1,7 @@
 //! Texts that spell no tokens, with their faults.
 
-use crate::LexFault;
-use crate::tests::first_accepted;
+use crate::tokens::first_accepted;
+use lua_lexer::LexFault;
 use std::alloc::Global;
 
 const BAD_BYTES_1: &[(&[u8], LexFault)] = &[

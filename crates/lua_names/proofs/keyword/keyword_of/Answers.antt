@@ -1,8 +1,8 @@
 use Rattle.std.proofs.Common.{◌≡◌, refl, arith, rules}
 use Rattle.std.specs.Prelude.{codes}
 use Rattle.std.proofs.lemmas.Slice.Eq.{text_from_reads}
-use Rattle.lua_lexer.specs.Reading.{keyword_of}
-use Rattle.lua_lexer.proofs.word.keyword_of.Goals as goal
+use Rattle.lua_names.specs.Keywords.{keyword_of}
+use Rattle.lua_names.proofs.keyword.keyword_of.Goals as goal
 
 pub returns-in-break : goal.returns-in-break
 unfolding keyword_of
