@@ -7,8 +7,8 @@ use Rattle.std.specs.declared.cmp.Ordering.TheVariants.{Less}
 use Rattle.rocks_text.specs.Files.{Files, path_cmp}
 use Rattle.rocks_outside.specs.Told.{WhereTold}
 use Rattle.rocks_outside.specs.Counts.{HasRisen, RisesByOne}
-use Rattle.rocks_outside.specs.declared.device.DeviceError.{DeviceError}
-use Rattle.rocks_outside.specs.declared.device.DeviceError.TheVariants.{Failed, NoMemory}
+use Rattle.rocks_outside.specs.declared.fault.DeviceError.{DeviceError}
+use Rattle.rocks_outside.specs.declared.fault.DeviceError.TheVariants.{Failed, NoMemory}
 
 -- A device at one moment. What it doesn't tell is none.
 pub record DeviceState : Type 0 where

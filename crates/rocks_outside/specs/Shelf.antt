@@ -7,8 +7,8 @@ use Rattle.rocks_text.specs.Paths.{joined, below, IsFolderOf}
 use Rattle.rocks_text.specs.Texts.{is_file_path}
 use Rattle.rocks_outside.specs.Counts.{HasRisen}
 use Rattle.rocks_outside.specs.Device.{IsAscending}
-use Rattle.rocks_outside.specs.declared.shelf.ShelfError.{ShelfError}
-use Rattle.rocks_outside.specs.declared.shelf.ShelfError.TheVariants.{Failed, NoMemory}
+use Rattle.rocks_outside.specs.declared.fault.ShelfError.{ShelfError}
+use Rattle.rocks_outside.specs.declared.fault.ShelfError.TheVariants.{Failed, NoMemory}
 use Rattle.rocks_outside.specs.declared.shelf.ShelfRead.{ShelfRead}
 use Rattle.rocks_outside.specs.declared.shelf.ShelfRead.TheVariants.{Absent, TooLong, Bytes}
 

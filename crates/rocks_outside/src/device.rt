@@ -1,38 +1,13 @@
 ghost use Rattle.std.specs.Prelude.{◌≡◌, ◌⊎◌, IfOk, IfSome};
 ghost use Rattle.std.specs.Option.{option_map};
 ghost use Rattle.std.specs.FinMap.{get, insert, remove};
-ghost use Rattle.rocks_outside.specs.declared.device.DeviceError.TheVariants.{NoMemory};
 ghost use Rattle.rocks_outside.specs.Device.{DeviceState, paths_from, renamed, IsListing};
 ghost use Rattle.rocks_outside.specs.Device.{DifferAtMostAt, LooksOnly, ChangesFiles, SyncsOnly};
 ghost use Rattle.rocks_outside.specs.Device.{SaysOnly, TellsTheSame};
 
+use crate::DeviceError;
 use rocks_text::TreePath;
-use std::alloc::{AllocError, AllocFailed, Global};
-
-/// Why a call of a device was not done.
-#[derive(Clone, Copy, Debug, PartialEq, Eq)]
-pub enum DeviceError {
-    /// The device failed. A change may have happened, whole or in part.
-    Failed,
-    /// Memory ran out, and nothing has changed.
-    NoMemory,
-}
-
-impl From<AllocError> for DeviceError {
-    ghost from_gives = { λ _ error. error ≡ NoMemory };
-
-    fn from(_: AllocError) -> DeviceError {
-        DeviceError::NoMemory
-    }
-}
-
-impl<T: Drop> From<AllocFailed<T>> for DeviceError {
-    ghost from_gives = { λ _ error. error ≡ NoMemory };
-
-    fn from(_: AllocFailed<T>) -> DeviceError {
-        DeviceError::NoMemory
-    }
-}
+use std::alloc::Global;
 
 /// Files of a tree, and a place to say replies to (this project's own).
 ///

@@ -4,15 +4,17 @@
 
 mod copying;
 mod device;
+mod fault;
 mod memory_device;
 mod memory_shelf;
 mod memory_source;
 mod shelf;
 mod source;
 
-pub use device::{Device, DeviceError};
+pub use device::Device;
+pub use fault::{DeviceError, ShelfError, SourceError};
 pub use memory_device::MemoryDevice;
 pub use memory_shelf::MemoryShelf;
 pub use memory_source::MemorySource;
-pub use shelf::{Shelf, ShelfError, ShelfRead};
-pub use source::{Source, SourceError};
+pub use shelf::{Shelf, ShelfRead};
+pub use source::Source;

@@ -144,7 +144,8 @@ fn bytes_at(alloc: Global, files: &Held, path: &TreePath) -> Result<Option<Vec<u
 }
 
 fn paths_from(alloc: Global, files: &Held, prefix: &str) -> Result<Vec<TreePath>, AllocError>
-    ensures listed { IfOk result (λ paths. paths.items ≡ paths_from prefix.now (files_of files.now)) }
+    ensures listed { IfOk result
+        (λ paths. paths.items ≡ paths_from prefix.now (files_of files.now)) }
     ensures form { IfOk result (λ paths. IsListing prefix.now paths.items) }
 {
     let mut paths = Vec::new(alloc);

@@ -157,7 +157,8 @@ fn empty_servers(alloc: Global, count: u32) -> Result<Vec<Server>, AllocError>
 }
 
 fn put(alloc: Global, files: &mut Held, path: &FilePath, bytes: &[u8]) -> Result<bool, AllocError>
-    ensures refused { IfOk result (λ taken. (taken ≡ false) ↔ Clashes path.now (files_of files.old)) }
+    ensures refused { IfOk result
+        (λ taken. (taken ≡ false) ↔ Clashes path.now (files_of files.old)) }
     ensures put { IfOk result (λ taken. files_of files.new
         ≡ (if taken then insert (files_of files.old) path.now bytes.now else files_of files.old)) }
     ensures err { OnErr result (files_of files.new ≡ files_of files.old) }
@@ -202,7 +203,8 @@ fn read(alloc: Global, files: &Held, path: &FilePath, limit: u32) -> Result<Shel
 
 fn list(alloc: Global, files: &Held, folder: &FilePath) -> Result<Vec<FilePath>, AllocError>
     requires { HasNoFileAsFolder (files_of files.now) }
-    ensures listed { IfOk result (λ paths. paths.items ≡ paths_below folder.now (files_of files.now)) }
+    ensures listed { IfOk result
+        (λ paths. paths.items ≡ paths_below folder.now (files_of files.now)) }
     ensures form { IfOk result (λ paths. IsFolderListing folder.now paths.items) }
 {
     let mut paths = Vec::new(alloc);

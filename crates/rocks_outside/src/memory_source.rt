@@ -1,4 +1,5 @@
-ghost use Rattle.std.specs.Prelude.{◌≡◌, ◌≤◌, ◌<◌, ◌++◌, Some, length, min, take, drop, IfOk, OnErr, if◌then◌else◌};
+ghost use Rattle.std.specs.Prelude.{◌≡◌, ◌≤◌, ◌<◌, ◌++◌, Some, length, min, take, drop};
+ghost use Rattle.std.specs.Prelude.{IfOk, OnErr, if◌then◌else◌};
 ghost use Rattle.rocks_outside.specs.Counts.{HasRisen};
 ghost use Rattle.rocks_outside.specs.Source.{Gives};
 ghost use Rattle.rocks_outside.specs.Stream.{is_failing, given, after_call};
@@ -24,7 +25,12 @@ impl Model for MemorySource {
 
     ghost Value = { Stream };
 
-    ghost view = { λ s. record { left = drop s.taken s.bytes.items; step = s.step; calls_left = s.calls_left; faults = s.faults } };
+    ghost view = { λ s. record {
+      left = drop s.taken s.bytes.items;
+      step = s.step;
+      calls_left = s.calls_left;
+      faults = s.faults;
+    } };
 
     ghost invariant = { λ s. (s.taken ≤ length s.bytes.items) × (1 ≤ s.step) };
 }
@@ -34,7 +40,8 @@ impl MemorySource {
     /// fails, counted from 0, and no other. It takes no memory.
     pub fn new(bytes: Vec<u8>, step: usize, fail_at: Option<u64>) -> MemorySource
         requires { 1 ≤ step }
-        ensures { result ≡ record { left = bytes.items; step = step; calls_left = fail_at; faults = 0 } }
+        ensures { result
+            ≡ record { left = bytes.items; step = step; calls_left = fail_at; faults = 0 } }
     {
         MemorySource {
             bytes,
@@ -61,7 +68,8 @@ impl Source for MemorySource {
         ensures cause { OnErr result (HasRisen self.old.faults self.new.faults) }
 
         // Which call fails, how many bytes each gives, and what comes after, exactly.
-        ensures answer { result ≡ (if is_failing self.old.calls_left then Err SourceError.Failed else Ok (given (length into.old) self.old)) }
+        ensures answer { result ≡ (if is_failing self.old.calls_left then Err SourceError.Failed
+            else Ok (given (length into.old) self.old)) }
         ensures after { self.new ≡ after_call (length into.old) self.old }
         ensures untouched { OnErr result (into.new ≡ into.old) }
     {

@@ -1,36 +1,11 @@
 ghost use Rattle.std.specs.Prelude.{◌≡◌, ◌<◌, IfOk, IfSome};
-ghost use Rattle.rocks_outside.specs.declared.shelf.ShelfError.TheVariants.{NoMemory};
 ghost use Rattle.rocks_outside.specs.Shelf.{ShelfState, held_at, held_below, IsRead, IsWithin};
 ghost use Rattle.rocks_outside.specs.Shelf.{IsFolderListing, AsksOnly, IsShelf};
 
+use crate::ShelfError;
 use rocks_bytes::Bytes;
 use rocks_text::FilePath;
-use std::alloc::{AllocError, AllocFailed, Global};
-
-/// Why a shelf didn't answer.
-#[derive(Clone, Copy, Debug, PartialEq, Eq)]
-pub enum ShelfError {
-    /// The shelf failed.
-    Failed,
-    /// Memory ran out.
-    NoMemory,
-}
-
-impl From<AllocError> for ShelfError {
-    ghost from_gives = { λ _ error. error ≡ NoMemory };
-
-    fn from(_: AllocError) -> ShelfError {
-        ShelfError::NoMemory
-    }
-}
-
-impl<T: Drop> From<AllocFailed<T>> for ShelfError {
-    ghost from_gives = { λ _ error. error ≡ NoMemory };
-
-    fn from(_: AllocFailed<T>) -> ShelfError {
-        ShelfError::NoMemory
-    }
-}
+use std::alloc::Global;
 
 /// What a server has at a path, as far as a limit allows.
 #[derive(Debug, Drop)]

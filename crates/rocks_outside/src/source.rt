@@ -3,12 +3,7 @@ ghost use Rattle.rocks_outside.specs.Counts.{HasRisen};
 ghost use Rattle.rocks_outside.specs.Told.{WhereTold};
 ghost use Rattle.rocks_outside.specs.Source.{Gives};
 
-/// Why a stream gave nothing.
-#[derive(Clone, Copy, Debug, PartialEq, Eq)]
-pub enum SourceError {
-    /// The stream failed.
-    Failed,
-}
+use crate::SourceError;
 
 /// A stream of bytes to read (this project's own).
 pub trait Source {
@@ -24,7 +19,8 @@ pub trait Source {
     /// `Failed` takes nothing, and comes only where the count of faults rose in the call.
     fn read(&mut self, into: &mut [u8]) -> Result<usize, SourceError>
         ensures within { IfOk result (λ n. n ≤ length into.old) }
-        ensures given { IfOk result (λ n. WhereTold (Gives n into.old into.new) (left self.old) (left self.new)) }
+        ensures given { IfOk result
+            (λ n. WhereTold (Gives n into.old into.new) (left self.old) (left self.new)) }
         ensures failed { OnErr result (left self.new ≡ left self.old) }
         ensures faults { faults self.old ≤ faults self.new }
         ensures cause { OnErr result (HasRisen (faults self.old) (faults self.new)) };

@@ -1,8 +1,8 @@
 -- Which fault of a trait a fault of the disk becomes.
-use Rattle.rocks_outside.specs.declared.device.DeviceError as device
-use Rattle.rocks_outside.specs.declared.device.DeviceError.TheVariants as device_errors
-use Rattle.rocks_outside.specs.declared.shelf.ShelfError as shelf
-use Rattle.rocks_outside.specs.declared.shelf.ShelfError.TheVariants as shelf_errors
+use Rattle.rocks_outside.specs.declared.fault.DeviceError as device
+use Rattle.rocks_outside.specs.declared.fault.DeviceError.TheVariants as device_errors
+use Rattle.rocks_outside.specs.declared.fault.ShelfError as shelf
+use Rattle.rocks_outside.specs.declared.fault.ShelfError.TheVariants as shelf_errors
 use Rattle.std.specs.IoError.{error_kind}
 use Rattle.std.specs.declared.io.Error.{Error}
 use Rattle.std.specs.declared.io.ErrorKind.{ErrorKind}

@@ -2,8 +2,8 @@
 use Rattle.std.proofs.Common.{◌≡◌, ◌≤◌, ℕ, ◌∙◌, refl, sym, subst, arith}
 use Rattle.std.specs.Prelude.{Result, Ok, Err}
 use Rattle.rocks_outside.specs.Shelf.{ShelfState, AsksOnly, CountsFaults}
-use Rattle.rocks_outside.specs.declared.shelf.ShelfError.{ShelfError}
-use Rattle.rocks_outside.specs.declared.shelf.ShelfError.TheVariants as shelf_error
+use Rattle.rocks_outside.specs.declared.fault.ShelfError.{ShelfError}
+use Rattle.rocks_outside.specs.declared.fault.ShelfError.TheVariants as shelf_error
 use Rattle.rocks_session.specs.Faults.{IsShelfFault, fault_of_shelf}
 use Rattle.rocks_session.specs.Staged.{Asks}
 use Rattle.rocks_session.specs.declared.fault.SessionFault.{SessionFault}

@@ -4,8 +4,8 @@ use Rattle.std.proofs.lemmas.List.{append-nil, take_all}
 use Rattle.rocks_text.specs.Files.{Files}
 use Rattle.rocks_outside.specs.Device.{DeviceState, SaysOnly, Says, RisesByOneWhereTold, TellsTheSame}
 use Rattle.rocks_outside.specs.Told.{WhereTold}
-use Rattle.rocks_outside.specs.declared.device.DeviceError.{DeviceError}
-use Rattle.rocks_outside.specs.declared.device.DeviceError.TheVariants as device_error
+use Rattle.rocks_outside.specs.declared.fault.DeviceError.{DeviceError}
+use Rattle.rocks_outside.specs.declared.fault.DeviceError.TheVariants as device_error
 use Rattle.tree_model.specs.Rock.{Rock}
 use Rattle.tree_model.specs.Tree.{tree_of}
 use Rattle.rocks_session.specs.Execute.{CarriesOut}
@@ -18,7 +18,7 @@ use Rattle.rocks_session.specs.declared.status.Status.{Status}
 use Rattle.rocks_session.specs.declared.status.Status.TheVariants.{Done, Refused}
 use Rattle.rocks_session.specs.declared.version.RockKey.{RockKey}
 use Rattle.rocks_session.specs.declared.words.Command.{Command}
-use Rattle.rocks_session.specs.declared.words.WordsFault.{WordsFault}
+use Rattle.rocks_session.specs.declared.fault.WordsFault.{WordsFault}
 
 abbrev Read : Type 0
 Read = Result Command WordsFault

@@ -5,8 +5,8 @@ use Rattle.rocks_text.specs.Files.{Files}
 use Rattle.rocks_outside.specs.Counts.{HasRisen, RisesByOne}
 use Rattle.rocks_outside.specs.Device.{DeviceState, CountsFaults, RisesByOneWhereTold, Ticks, SyncsOnly}
 use Rattle.rocks_outside.specs.Told.{WhereTold}
-use Rattle.rocks_outside.specs.declared.device.DeviceError.{DeviceError}
-use Rattle.rocks_outside.specs.declared.device.DeviceError.TheVariants as device_error
+use Rattle.rocks_outside.specs.declared.fault.DeviceError.{DeviceError}
+use Rattle.rocks_outside.specs.declared.fault.DeviceError.TheVariants as device_error
 use Rattle.rocks_session.specs.Faults.{IsDeviceFault, fault_of_device}
 use Rattle.rocks_session.specs.Staged.{file_of, put_all, Writes, Installs}
 use Rattle.rocks_session.specs.declared.fault.SessionFault.{SessionFault}

@@ -4,10 +4,10 @@ use Rattle.std.specs.FinMap.{keys}
 use Rattle.rocks_text.specs.Files.{Files}
 use Rattle.rocks_outside.specs.Counts.{HasRisen}
 use Rattle.rocks_outside.specs.Device.{DeviceState}
-use Rattle.rocks_outside.specs.declared.device.DeviceError as device
-use Rattle.rocks_outside.specs.declared.device.DeviceError.TheVariants as device_error
-use Rattle.rocks_outside.specs.declared.shelf.ShelfError as shelf
-use Rattle.rocks_outside.specs.declared.shelf.ShelfError.TheVariants as shelf_error
+use Rattle.rocks_outside.specs.declared.fault.DeviceError as device
+use Rattle.rocks_outside.specs.declared.fault.DeviceError.TheVariants as device_error
+use Rattle.rocks_outside.specs.declared.fault.ShelfError as shelf
+use Rattle.rocks_outside.specs.declared.fault.ShelfError.TheVariants as shelf_error
 use Rattle.rocks_session.specs.declared.fault.OpenFault.{OpenFault}
 use Rattle.rocks_session.specs.declared.fault.OpenFault.TheVariants as open_fault
 use Rattle.rocks_session.specs.declared.fault.SessionFault.{SessionFault}

@@ -12,7 +12,7 @@ use Rattle.rocks_session.specs.declared.reply.Refusal.{Refusal}
 use Rattle.rocks_session.specs.declared.status.Status.{Status}
 use Rattle.rocks_session.specs.declared.status.Status.TheVariants.{Done, Refused, BadWords, NoMemory, DeviceFault, ShelfFault, Damaged}
 use Rattle.rocks_session.specs.declared.words.Command.{Command}
-use Rattle.rocks_session.specs.declared.words.WordsFault.{WordsFault}
+use Rattle.rocks_session.specs.declared.fault.WordsFault.{WordsFault}
 
 abbrev pub status_of : Option Refusal → Status
 status_of None = Done

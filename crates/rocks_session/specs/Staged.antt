@@ -10,8 +10,8 @@ use Rattle.rocks_outside.specs.Counts.{HasRisen}
 use Rattle.rocks_outside.specs.Device.{DeviceState}
 use Rattle.rocks_outside.specs.Shelf.{ShelfState}
 use Rattle.rocks_outside.specs.Told.{WhereTold}
-use Rattle.rocks_outside.specs.declared.device.DeviceError.{DeviceError}
-use Rattle.rocks_outside.specs.declared.device.DeviceError.TheVariants.{Failed}
+use Rattle.rocks_outside.specs.declared.fault.DeviceError.{DeviceError}
+use Rattle.rocks_outside.specs.declared.fault.DeviceError.TheVariants.{Failed}
 use Rattle.tree_paths.specs.Places.{plain_path}
 use Rattle.tree_model.specs.Tree.{files_of, rockspec_name, rockspec_path, HaveOwnPaths}
 use Rattle.rocks_session.specs.Faults.{IsShelfFault, IsDeviceFault}

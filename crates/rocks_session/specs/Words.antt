@@ -6,8 +6,8 @@ use Rattle.rocks_text.specs.Texts.{is_name, lowered}
 use Rattle.rocks_session.specs.Version.{is_rock_version}
 use Rattle.rocks_session.specs.declared.words.Command.{Command}
 use Rattle.rocks_session.specs.declared.words.Command.TheVariants.{Add}
-use Rattle.rocks_session.specs.declared.words.WordsFault.{WordsFault}
-use Rattle.rocks_session.specs.declared.words.WordsFault.TheVariants.{Options, BadWords, NoMemory}
+use Rattle.rocks_session.specs.declared.fault.WordsFault.{WordsFault}
+use Rattle.rocks_session.specs.declared.fault.WordsFault.TheVariants.{Options, BadWords, NoMemory}
 
 abbrev pub is_tree_flag : List ℕ → Bool
 is_tree_flag word = bytes_eq word (codes "--tree")

@@ -10,8 +10,8 @@ ghost use Rattle.rocks_session.specs.Unpacked.{earliest_with};
 /// Each file that a folder lists is there, and so is a path on the server that was found to have it: no file of an
 /// unpacked rock is ever taken as empty because it is absent.
 pub fn listed_files()
-    ensures below { (files : Files) (folder path : List ℕ) → Contains (paths_below folder files) path
-        → IsSome (get files (joined folder path)) }
+    ensures below { (files : Files) (folder path : List ℕ)
+        → Contains (paths_below folder files) path → IsSome (get files (joined folder path)) }
     ensures found { (servers : List Files) (files : Files) (path : List ℕ)
         → earliest_with path servers ≡ Some files → IsSome (get files path) }
 {}

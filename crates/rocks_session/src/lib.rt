@@ -15,10 +15,10 @@ mod version;
 mod words;
 
 pub use execution::execute;
-pub use fault::{OpenFault, SessionFault};
+pub use fault::{OpenFault, SessionFault, WordsFault};
 pub use reply::{Refusal, Reply};
 pub use session::run;
 pub use status::Status;
 pub use tree::{Tree, open};
 pub use version::{RockKey, Version};
-pub use words::{Command, RootWords, WordsFault, read_words, roots};
+pub use words::{Command, RootWords, read_words, roots};

@@ -1,5 +1,6 @@
 // The paths of an unpacked rock's folder, and the places of its files in a tree.
-ghost use Rattle.std.specs.Prelude.{◌≡◌, ◌++◌, IfOk, MatchOption, true, false, codes, drop, string_bytes};
+ghost use Rattle.std.specs.Prelude.{◌≡◌, ◌++◌, IfOk, MatchOption, true, false};
+ghost use Rattle.std.specs.Prelude.{codes, drop, string_bytes};
 ghost use Rattle.std.specs.List.{starts_with};
 ghost use Rattle.std.specs.Bool.{nat_eq};
 ghost use Rattle.tree_model.specs.Tree.{rockspec_name, rockspec_path};

@@ -7,7 +7,8 @@ ghost use Rattle.rocks_text.specs.Paths.{joined};
 ghost use Rattle.rocks_text.specs.Texts.{is_file_path};
 ghost use Rattle.rocks_outside.specs.Shelf.{held_at};
 ghost use Rattle.rocks_session.specs.Staged.{Asks, IsSound, IsOffer, FolderOffers, IsFoundIn};
-ghost use Rattle.rocks_session.specs.Staged.{IsServer, IsModule, IsFolderOfKey, AreTaken, IsNotTaken};
+ghost use Rattle.rocks_session.specs.Staged.{IsServer, IsModule, IsFolderOfKey};
+ghost use Rattle.rocks_session.specs.Staged.{AreTaken, IsNotTaken};
 
 use crate::paths::{
     module_place, rockspec_name, rockspec_place, unpacked_folder, unpacked_rockspec,

@@ -1,7 +1,9 @@
-ghost use Rattle.std.specs.Prelude.{◌≡◌, ◌<◌, ◌+◌, ◌&&◌, take, drop, IsTrue, IfOk, IfSome, MatchOption, false, length, position};
+ghost use Rattle.std.specs.Prelude.{◌≡◌, ◌<◌, ◌+◌, ◌&&◌, take, drop, length, position};
+ghost use Rattle.std.specs.Prelude.{IsTrue, IfOk, IfSome, MatchOption, false};
 ghost use Rattle.std.specs.List.{list_all};
 ghost use Rattle.std.specs.Char.{is_ascii_digit};
-ghost use Rattle.rocks_session.specs.Version.{is_rock_version, is_body, is_body_byte, is_revision, has_short_numbers, is_dash};
+ghost use Rattle.rocks_session.specs.Version.{is_rock_version, is_body, is_body_byte, is_dash};
+ghost use Rattle.rocks_session.specs.Version.{is_revision, has_short_numbers};
 
 use rocks_bytes::Text;
 use rocks_text::Name;
@@ -37,7 +39,8 @@ impl Model for Version {
 impl Version {
     /// The rock version that a text is, or `None` exactly where it is none. The only error is want of memory.
     pub fn from_text(alloc: Global, text: &str) -> Result<Option<Version>, AllocError>
-        ensures { IfOk result (λ read. MatchOption read (is_rock_version text.now ≡ false) (λ version. version ≡ text.now)) }
+        ensures { IfOk result (λ read. MatchOption read (is_rock_version text.now ≡ false)
+            (λ version. version ≡ text.now)) }
     {
         if !is_rock_version(text.as_bytes()) {
             return Ok(None);

@@ -1,11 +1,12 @@
 ghost use Rattle.std.specs.Prelude.{◌≡◌, ◌+◌, ◌*◌, ◌||◌, length, map, IfOk, IsOk, MatchResult};
 ghost use Rattle.std.specs.Prelude.{string_bytes};
 ghost use Rattle.std.specs.List.{list_any};
-ghost use Rattle.rocks_session.specs.Words.{command_of, rooted, from_folders, after_from, command_in};
-ghost use Rattle.rocks_session.specs.Words.{add_name, add_version, is_tree_flag, is_from_flag};
+ghost use Rattle.rocks_session.specs.Words.{command_of, rooted, from_folders, after_from};
+ghost use Rattle.rocks_session.specs.Words.{command_in, add_name, add_version};
+ghost use Rattle.rocks_session.specs.Words.{is_tree_flag, is_from_flag};
 ghost use Rattle.rocks_session.specs.Words.{IsFaultOf, RootsAre};
 
-use crate::{RockKey, Version};
+use crate::{RockKey, Version, WordsFault};
 use rocks_bytes::Text;
 use rocks_text::{Name, TextFault};
 use sqlite_items::Items;
@@ -55,29 +56,6 @@ impl RootWords {
     }
 }
 
-/// Why words say no command.
-#[derive(Clone, Copy, Debug, PartialEq, Eq)]
-pub enum WordsFault {
-    /// The options are not `--tree DIR` and then `--from DIR` at most 8 times.
-    Options,
-    /// The word with this number fits no command. Words are counted from 0, without the options; where words are
-    /// missing, it is their count.
-    BadWords { which: u32 },
-    /// Memory ran out.
-    NoMemory,
-}
-
-impl From<AllocError> for WordsFault {
-    ghost use Rattle.std.specs.Prelude.{◌≡◌};
-    ghost use Rattle.rocks_session.specs.declared.words.WordsFault.TheVariants.{NoMemory};
-
-    ghost from_gives = { λ _ fault. fault ≡ NoMemory };
-
-    fn from(_: AllocError) -> WordsFault {
-        WordsFault::NoMemory
-    }
-}
-
 /// The command that the words of a command line give: `--tree DIR`, then `--from DIR` at most 8 times, then
 /// `add NAME VERSION`. NAME is put into lower case, and VERSION is a rock version.
 ///
@@ -116,7 +94,8 @@ fn rooted(words: &[String]) -> Result<(&String, &[String], &[String]), WordsFaul
           servers = from_folders (map string_bytes parts.1.now);
           command = map string_bytes parts.2.now;
         }))
-        (λ fault. (rooted (map string_bytes words.now) ≡ Err fault) × (fault ≡ WordsFault.Options)) }
+        (λ fault. (rooted (map string_bytes words.now) ≡ Err fault)
+        × (fault ≡ WordsFault.Options)) }
 {
     let [flag, tree, from @ ..] = words else {
         return Err(WordsFault::Options);

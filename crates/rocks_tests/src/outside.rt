@@ -42,7 +42,11 @@ fn a_device_lists_by_a_prefix(rt: HostRuntime) -> Result<(), Fail> {
         device.write(&TreePath::from_text(alloc, path)?, b"1")?;
     }
     assert_eq!(rt; files(alloc, &mut device, "a/")?.as_str(), "a/b=1;a/c=1;");
-    assert!(rt; device.read(alloc, &TreePath::from_text(alloc, "a")?)?.is_none());
+    assert!(rt;
+        device
+            .read(alloc, &TreePath::from_text(alloc, "a")?)?
+            .is_none()
+    );
     Ok(())
 }
 

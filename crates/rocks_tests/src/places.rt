@@ -13,7 +13,10 @@ fn each_file_has_its_place(rt: HostRuntime) -> Result<(), Fail> {
         (Kind::Bin, "bin/h/i.x"),
     ] {
         let path = FilePath::from_text(alloc, "h/i.x")?;
-        assert_eq!(rt; tree_paths::plain(alloc, &Item { kind, path })?.as_str(), place);
+        assert_eq!(rt;
+            tree_paths::plain(alloc, &Item { kind, path })?.as_str(),
+            place
+        );
     }
     let name = tree_model::rockspec_name(alloc, "hello", "1.0-1")?;
     assert_eq!(rt; name.as_str(), "hello-1.0-1.rockspec");

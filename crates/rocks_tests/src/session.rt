@@ -233,13 +233,25 @@ fn what_is_written_is_synced_and_then_said(rt: HostRuntime) -> Result<(), Fail> 
             "--tree T --from S add hello 1.0-1",
             ["list", "write", "write", "write", "sync", "say"].as_slice(),
         ),
-        ("--tree T --from S add hello 2.0-1", ["list", "say"].as_slice()),
-        ("--tree T --from S add lua 5.4-1", ["list", "say"].as_slice()),
+        (
+            "--tree T --from S add hello 2.0-1",
+            ["list", "say"].as_slice(),
+        ),
+        (
+            "--tree T --from S add lua 5.4-1",
+            ["list", "say"].as_slice(),
+        ),
     ] {
         let mut shelf = hello(&rt, alloc)?;
         let mut device = FailingDevice::new(alloc, u64::MAX);
         let mut input = MemorySource::new(Vec::new(alloc), 1, None);
-        let _ = run(alloc, &words(alloc, line)?, &mut device, &mut shelf, &mut input);
+        let _ = run(
+            alloc,
+            &words(alloc, line)?,
+            &mut device,
+            &mut shelf,
+            &mut input,
+        );
         assert!(rt; device.calls.as_slice() == calls, "{line}");
     }
     Ok(())

@@ -6,22 +6,48 @@ use std::cmp::Ordering;
 use std::test::Fail;
 
 const NAMES: [&str; 10] = [
-    "a", "z", "0", "9", "az09_-.", "a.", "a..b", "manifes", "manifests", "anifest",
+    "a",
+    "z",
+    "0",
+    "9",
+    "az09_-.",
+    "a.",
+    "a..b",
+    "manifes",
+    "manifests",
+    "anifest",
 ];
 
 const NO_NAMES: [&str; 29] = [
-    "", "_", "-", ".", "..", "_a", "-a", ".a", "manifest", "MANIFEST", "manifesT", "a@", "a[", "a`", "a{", "a/", "a:",
-    "a,", "a^", "a b", "/a", "a\\", "a\0", "a\u{1f}", "a\u{7f}", "a\u{e9}", "\u{c9}a", " a", "a\n",
+    "", "_", "-", ".", "..", "_a", "-a", ".a", "manifest", "MANIFEST", "manifesT", "a@", "a[",
+    "a`", "a{", "a/", "a:", "a,", "a^", "a b", "/a", "a\\", "a\0", "a\u{1f}", "a\u{7f}", "a\u{e9}",
+    "\u{c9}a", " a", "a\n",
 ];
 
 const PATHS: [&str; 18] = [
-    "a", "A/B", "manifest", "...", ".a", "a.", "..a", "a..", "a/.b", "a/b./c", "a b", " ", "~b", "a[]b", "\u{80}",
-    "\u{e9}/\u{e9}", "-", "a-b/c",
+    "a",
+    "A/B",
+    "manifest",
+    "...",
+    ".a",
+    "a.",
+    "..a",
+    "a..",
+    "a/.b",
+    "a/b./c",
+    "a b",
+    " ",
+    "~b",
+    "a[]b",
+    "\u{80}",
+    "\u{e9}/\u{e9}",
+    "-",
+    "a-b/c",
 ];
 
 const NO_PATHS: [&str; 22] = [
-    "", "/", "//", "/a", "a/", "a//b", ".", "..", "./a", "../a", "a/.", "a/..", "a/./b", "a/../b", "\\", "a\\b",
-    "a\0b", "a\u{1f}b", "a\u{7f}b", "a/\u{1f}", "\u{7f}/a", "a\n",
+    "", "/", "//", "/a", "a/", "a//b", ".", "..", "./a", "../a", "a/.", "a/..", "a/./b", "a/../b",
+    "\\", "a\\b", "a\0b", "a\u{1f}b", "a\u{7f}b", "a/\u{1f}", "\u{7f}/a", "a\n",
 ];
 
 /// The name that a text stands for, read from a copy of it.
@@ -185,7 +211,11 @@ fn items_go_by_kind_and_then_by_path(rt: HostRuntime) -> Result<(), Fail> {
 #[test]
 fn paths_join_and_part_again(rt: HostRuntime) -> Result<(), Fail> {
     let alloc = rt.alloc();
-    for (folder, path, whole) in [("a", "b", "a/b"), ("a/b", "c/d", "a/b/c/d"), ("a-", "b", "a-/b")] {
+    for (folder, path, whole) in [
+        ("a", "b", "a/b"),
+        ("a/b", "c/d", "a/b/c/d"),
+        ("a-", "b", "a-/b"),
+    ] {
         let folder = FilePath::from_text(alloc, folder)?;
         let joined = FilePath::from_text(alloc, whole)?;
         assert_eq!(rt; joined.below(&folder), Some(path));

@@ -2,7 +2,8 @@ ghost use Rattle.std.specs.Prelude.{◌≡◌, ◌≢◌, ◌↔◌, false, IsTr
 ghost use Rattle.std.specs.List.{list_all};
 ghost use Rattle.std.specs.Option.{option_map};
 ghost use Rattle.rocks_text.specs.Paths.{joined, below};
-ghost use Rattle.rocks_text.specs.Texts.{is_file_path, is_tree_path, is_path, is_part, is_part_byte};
+ghost use Rattle.rocks_text.specs.Texts.{is_file_path, is_tree_path, is_path};
+ghost use Rattle.rocks_text.specs.Texts.{is_part, is_part_byte};
 
 use crate::TextFault;
 use rocks_bytes::Text;

@@ -13,8 +13,10 @@ pub fn empty_tree()
 /// What a tree has at a path, one of its rocks brings. Where no two files of the rocks have one path, the tree has
 /// each of them.
 pub fn files_of_a_tree()
-    ensures only { (rocks : List Rock) (path bytes : List ℕ) → get (tree_of rocks) path ≡ Some bytes
-        → Contains (flat_map files_of rocks) (path, bytes) }
-    ensures each { (rocks : List Rock) (path bytes : List ℕ) → HaveOwnPaths (flat_map files_of rocks)
-        → Contains (flat_map files_of rocks) (path, bytes) → get (tree_of rocks) path ≡ Some bytes }
+    ensures only { (rocks : List Rock) (path bytes : List ℕ)
+        → get (tree_of rocks) path ≡ Some bytes → Contains (flat_map files_of rocks) (path, bytes) }
+    ensures each { (rocks : List Rock) (path bytes : List ℕ)
+        → HaveOwnPaths (flat_map files_of rocks)
+        → Contains (flat_map files_of rocks) (path, bytes)
+        → get (tree_of rocks) path ≡ Some bytes }
 {}

@@ -89,7 +89,12 @@ impl Device for FailingDevice {
     ghost use Rattle.std.specs.Prelude.{None};
 
     ghost state = { λ d. record {
-        files = None; said = None; clock = d.clock; looks = d.looks; faults = d.fuse.faults } };
+      files = None;
+      said = None;
+      clock = d.clock;
+      looks = d.looks;
+      faults = d.fuse.faults;
+    } };
 
     ghost tells = { λ _ _. record { files = tt; said = tt } };
 
@@ -154,7 +159,10 @@ impl Shelf for FailingShelf {
     ghost use Rattle.rocks_outside.specs.Memory.{shelf_holds};
 
     ghost state = { λ shelf. record {
-        holds = None; servers = length (shelf_holds shelf.servers); faults = shelf.fuse.faults } };
+      holds = None;
+      servers = length (shelf_holds shelf.servers);
+      faults = shelf.fuse.faults;
+    } };
 
     fn servers(&self) -> u32 {
         self.servers.servers()
