@@ -1,0 +1,240 @@
+//! The real objects over real folders. A test starts in an empty folder of its own.
+
+use rocks_folders::{FolderDevice, FolderShelf, StdSource};
+use rocks_outside::{Device, DeviceError, Shelf, ShelfError, ShelfRead, Source};
+use rocks_text::{FilePath, TreePath};
+use std::alloc::Global;
+use std::fs;
+use std::test::Fail;
+
+/// A call of a device.
+#[derive(Debug, Drop)]
+enum Call {
+    Write(&'static str, &'static str),
+    Rename(&'static str, &'static str),
+    Remove(&'static str),
+    Sync,
+    Say(&'static str),
+}
+
+fn tree_path(alloc: Global, text: &str) -> Result<TreePath, Fail> {
+    Ok(TreePath::from_text(alloc, text)?)
+}
+
+fn call<D: Device>(alloc: Global, device: &mut D, call: &Call) -> Result<bool, Fail> {
+    let answer = match call {
+        Call::Write(path, bytes) => device.write(&tree_path(alloc, path)?, bytes.as_bytes()),
+        Call::Rename(from, to) => {
+            device.rename(&tree_path(alloc, from)?, &tree_path(alloc, to)?)
+        }
+        Call::Remove(path) => device.remove(&tree_path(alloc, path)?),
+        Call::Sync => device.sync(),
+        Call::Say(text) => device.say(text.as_bytes()),
+    };
+    Ok(answer.is_ok())
+}
+
+/// The files of a tree, each as `path=bytes;`.
+fn files<D: Device>(alloc: Global, device: &mut D, prefix: &str) -> Result<String, Fail> {
+    let mut text = String::new(alloc);
+    let paths = device.list(alloc, prefix)?;
+    for path in &paths {
+        let bytes = device.read(alloc, path)?.ok_or("listed and absent")?;
+        text.push_str(path.as_str())?;
+        text.push('=')?;
+        text.push_str(str::from_utf8(&bytes)?)?;
+        text.push(';')?;
+    }
+    Ok(text)
+}
+
+#[test]
+fn a_real_tree_keeps_what_is_written(rt: HostRuntime) -> Result<(), Fail> {
+    let alloc = rt.alloc();
+    let mut device = FolderDevice::new(rt, String::from_str(alloc, "far/tree/")?);
+    assert_eq!(rt; files(alloc, &mut device, "")?.as_str(), "");
+    // A call, whether it is done, and the files after it.
+    for (step, done, told) in [
+        (Call::Remove("a"), true, ""),
+        (Call::Rename("a", "b"), true, ""),
+        (Call::Write("b", "1"), true, "b=1;"),
+        (Call::Write("a/b/c", "2"), true, "a/b/c=2;b=1;"),
+        (Call::Write("a/b/c", "longer"), true, "a/b/c=longer;b=1;"),
+        (Call::Write("a/b/c", "3"), true, "a/b/c=3;b=1;"),
+        (Call::Write("a/b", "4"), false, "a/b/c=3;b=1;"),
+        (Call::Write("b/c", "4"), false, "a/b/c=3;b=1;"),
+        (Call::Sync, true, "a/b/c=3;b=1;"),
+        (Call::Rename("b", "a/b/c"), true, "a/b/c=1;"),
+        (Call::Rename("a/b/c", "d/e/f"), true, "d/e/f=1;"),
+        (Call::Write("a", "now a file"), true, "a=now a file;d/e/f=1;"),
+        (Call::Rename("d/e/f", "d/e"), false, "a=now a file;d/e/f=1;"),
+        (Call::Rename("d/e", "g"), true, "a=now a file;d/e/f=1;"),
+        (Call::Remove("d/e"), true, "a=now a file;d/e/f=1;"),
+        (Call::Remove("a/x"), true, "a=now a file;d/e/f=1;"),
+        (Call::Rename("a", "a"), true, "a=now a file;d/e/f=1;"),
+        (Call::Write("d/x", "5"), true, "a=now a file;d/e/f=1;d/x=5;"),
+        (Call::Remove("d/e/f"), true, "a=now a file;d/x=5;"),
+        (Call::Remove("d/x"), true, "a=now a file;"),
+        (Call::Write("d/x", "6"), true, "a=now a file;d/x=6;"),
+        (Call::Say("said\n"), true, "a=now a file;d/x=6;"),
+        (Call::Sync, true, "a=now a file;d/x=6;"),
+    ] {
+        assert_eq!(rt; call(alloc, &mut device, &step)?, done, "{step:?}");
+        assert_eq!(rt; files(alloc, &mut device, "")?.as_str(), told, "{step:?}");
+    }
+    assert_eq!(rt; files(alloc, &mut device, "d/")?.as_str(), "d/x=6;");
+    let of_a_folder = device.read(alloc, &tree_path(alloc, "d")?)?;
+    assert!(rt; of_a_folder.is_none());
+    Ok(())
+}
+
+#[test]
+fn folders_that_become_empty_go_and_the_tree_stays(rt: HostRuntime) -> Result<(), Fail> {
+    let alloc = rt.alloc();
+    let mut device = FolderDevice::new(rt, String::from_str(alloc, "tree")?);
+    // A call, the folders that stand after it, and those that don't.
+    for (step, stand, gone) in [
+        (Call::Write("a/b/c/d", "1"), ["tree/a/b", "tree/a/b/c"], "tree/x"),
+        (Call::Write("a/e/f", "2"), ["tree/a/e", "tree/a/b/c"], "tree/x"),
+        (Call::Rename("a/b/c/d", "x/y"), ["tree/a/e", "tree/x"], "tree/a/b"),
+        (Call::Remove("x/y"), ["tree/a/e", "tree"], "tree/x"),
+        (Call::Remove("a/e/f"), ["tree", "."], "tree/a"),
+    ] {
+        assert!(rt; call(alloc, &mut device, &step)?, "{step:?}");
+        for folder in stand {
+            assert!(rt; fs::exists(&rt, folder)?, "{step:?} {folder}");
+        }
+        assert!(rt; !fs::exists(&rt, gone)?, "{step:?} {gone}");
+    }
+    Ok(())
+}
+
+/// What a read answers.
+fn told(alloc: Global, read: Result<ShelfRead, ShelfError>) -> Result<String, Fail> {
+    Ok(match read {
+        Ok(ShelfRead::Absent) => String::from_str(alloc, "absent")?,
+        Ok(ShelfRead::TooLong) => String::from_str(alloc, "too long")?,
+        Ok(ShelfRead::Bytes(bytes)) => String::from_str(alloc, str::from_utf8(&bytes)?)?,
+        Err(_) => String::from_str(alloc, "fault")?,
+    })
+}
+
+/// The paths below a folder of a server, each followed by `;`.
+fn listed<S: Shelf>(
+    alloc: Global,
+    shelf: &mut S,
+    server: u32,
+    folder: &str,
+) -> Result<String, Fail> {
+    let folder = FilePath::from_text(alloc, folder)?;
+    let mut text = String::new(alloc);
+    if server >= shelf.servers() {
+        return Ok(text);
+    }
+    match shelf.list(alloc, server, &folder) {
+        Ok(paths) => {
+            for path in &paths {
+                text.push_str(path.as_str())?;
+                text.push(';')?;
+            }
+        }
+        Err(_) => text.push_str("fault")?,
+    }
+    Ok(text)
+}
+
+/// Two servers, and one that isn't there.
+fn real_shelf(rt: HostRuntime) -> Result<FolderShelf<HostRuntime>, Fail> {
+    let alloc = rt.alloc();
+    for folder in ["one", "one/r", "one/r/s", "two", "two/r"] {
+        fs::create_dir(&rt, folder)?;
+    }
+    for (path, bytes) in [
+        ("one/r/a", "of one"),
+        ("one/r/s/c", "deep"),
+        ("one/r/s-t", "between"),
+        ("two/r/a", "of two"),
+    ] {
+        fs::write(&rt, path, bytes)?;
+    }
+    let mut roots = Vec::new(alloc);
+    for root in ["one", "two/", "three"] {
+        roots.push(String::from_str(alloc, root)?)?;
+    }
+    Ok(FolderShelf::new(rt, roots))
+}
+
+#[test]
+fn real_servers_give_what_they_hold(rt: HostRuntime) -> Result<(), Fail> {
+    let alloc = rt.alloc();
+    let mut shelf = real_shelf(rt)?;
+    assert_eq!(rt; shelf.servers(), 3);
+    // A server, a path, a limit, and what is told.
+    for (server, path, limit, wanted) in [
+        (0, "r/a", 6, "of one"),
+        (0, "r/a", 5, "too long"),
+        (1, "r/a", 9, "of two"),
+        (1, "r/b", 9, "absent"),
+        (0, "r/s", 9, "absent"),
+        (0, "r/a/x", 9, "absent"),
+        (0, "r/s/c", 4, "deep"),
+        (2, "r/a", 9, "fault"),
+    ] {
+        let path = FilePath::from_text(alloc, path)?;
+        if server < shelf.servers() {
+            let read = shelf.read(alloc, server, &path, limit);
+            assert_eq!(rt; told(alloc, read)?.as_str(), wanted, "{server} {path:?}");
+        }
+    }
+    // A server, a folder, and what is listed.
+    for (server, folder, wanted) in [
+        (0, "r", "a;s-t;s/c;"),
+        (0, "r/s", "c;"),
+        (0, "r/a", ""),
+        (0, "x", ""),
+        (1, "r", "a;"),
+        (2, "r", "fault"),
+    ] {
+        assert_eq!(rt; listed(alloc, &mut shelf, server, folder)?.as_str(), wanted, "{folder}");
+    }
+    Ok(())
+}
+
+#[test]
+fn many_files_are_listed(rt: HostRuntime) -> Result<(), Fail> {
+    let alloc = rt.alloc();
+    let mut device = FolderDevice::new(rt, String::from_str(alloc, "s")?);
+    for number in 0..600u32 {
+        let path = format!(in alloc; "r/{number}/{number}")?;
+        device.write(&tree_path(alloc, path.as_str())?, b"1")?;
+    }
+    let mut roots = Vec::new(alloc);
+    roots.push(String::from_str(alloc, "s")?)?;
+    let mut shelf = FolderShelf::new(rt, roots);
+    if shelf.servers() > 0 {
+        let paths = shelf.list(alloc, 0, &FilePath::from_text(alloc, "r")?)?;
+        assert_eq!(rt; paths.len(), 600);
+    }
+    Ok(())
+}
+
+#[test]
+fn a_fault_of_a_real_tree_is_answered(rt: HostRuntime) -> Result<(), Fail> {
+    let alloc = rt.alloc();
+    fs::write(&rt, "file", "")?;
+    for root in ["", "file", "file/below"] {
+        let mut device = FolderDevice::new(rt, String::from_str(alloc, root)?);
+        let write = device.write(&tree_path(alloc, "a")?, b"1");
+        assert_eq!(rt; write, Err(DeviceError::Failed), "{root}");
+    }
+    Ok(())
+}
+
+#[test]
+fn standard_input_is_read(rt: HostRuntime) -> Result<(), Fail> {
+    let mut source = StdSource::new(rt);
+    let mut piece = [b'.'; 4];
+    assert_eq!(rt; source.read(&mut piece), Ok(0));
+    assert_eq!(rt; source.read(&mut piece[..0]), Ok(0));
+    Ok(())
+}
