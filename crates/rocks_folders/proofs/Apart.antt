@@ -61,11 +61,12 @@ pub none_behind : (folder first : List ℕ) (paths : List (List ℕ)) → IsStri
 none_behind folder first paths sorted other =
     let starts = starts_is Decides-eqb first folder (starts_with nat_eq first folder) refl in
     let low = (sorted_head path_cmp folder (first ∷ paths) sorted).0 in
-    let never : (rest : List ℕ) → first ≡ folder ++ rest → ⊥ = λ rest is. (let yes = starts.1 rest is in let no : false ≡ true = sym other ∙ yes in cc) in
-    (λ below. never (47 ∷ below.0) below.1,
-     all_more (λ path. path_cmp first path ≡ Less) (λ path. IsFolderOf folder path → ⊥)
-        (λ path high below. let found = between folder first (47 ∷ below.0) low (subst (λ p. path_cmp first p ≡ Less) below.1 high) in never found.0 found.1)
-        paths (sorted_head path_cmp first paths (sorted_tail path_cmp folder (first ∷ paths) sorted)))
+    let never : (rest : List ℕ) → first ≡ folder ++ rest → ⊥ = λ rest is. (let yes = starts.1 rest is in let no : false ≡ true = sym other ∙ yes in cc) in (
+      λ below. never (47 ∷ below.0) below.1,
+      all_more (λ path. path_cmp first path ≡ Less) (λ path. IsFolderOf folder path → ⊥)
+          (λ path high below. let found = between folder first (47 ∷ below.0) low (subst (λ p. path_cmp first p ≡ Less) below.1 high) in never found.0 found.1)
+          paths (sorted_head path_cmp first paths (sorted_tail path_cmp folder (first ∷ paths) sorted)),
+    )
 
 -- the same of a list that is seen through its paths
 pub none_from : {X : Type 0} (bytes : X → List ℕ) (names : List X) (first : X) (folder : List ℕ) → 1 ≤ length names → first ≡ get_or names 0 first → IsStrictlySortedBy path_cmp (folder ∷ map bytes names) → starts_with nat_eq (bytes first) folder ≡ false → HasNoneBelow (map bytes names) folder
@@ -95,9 +96,10 @@ not_below_itself path below =
 pub apart_as_all : (paths : List (List ℕ)) → IsStrictlySortedBy path_cmp paths → AreApart paths ↔ AllByRecursion (HasNoneBelow paths) paths
 apart_as_all [] sorted = (λ _. tt, λ _. tt)
 apart_as_all (path ∷ paths) sorted =
-    let rest = apart_as_all paths (sorted_tail path_cmp path paths sorted) in
-    (λ apart. ((not_below_itself path, apart.0), with_first path paths paths (sorted_head path_cmp path paths sorted) (rest.0 apart.1)),
-     λ all. (all.0.1, rest.1 (without_first path paths paths all.1)))
+    let rest = apart_as_all paths (sorted_tail path_cmp path paths sorted) in (
+      λ apart. ((not_below_itself path, apart.0), with_first path paths paths (sorted_head path_cmp path paths sorted) (rest.0 apart.1)),
+      λ all. (all.0.1, rest.1 (without_first path paths paths all.1)),
+    )
 
 -- What holds of names that are seen through their paths holds of those behind the first.
 all_but_first : {X : Type 0} (name : X) (names : List X) → take (length (name ∷ names) - 1) names ≡ names

@@ -1,7 +1,6 @@
 -- The folders that a path names, part by part.
-use Rattle.std.proofs.Common.{◌≡◌, ◌<◌, ◌==◌, ℕ, List, [], ◌∷◌, ◌++◌, length, map, get_or, refl, sym, ap, ◌∙◌, arith, true, false, Bool, append_assoc, suc, zero, if◌then◌else◌}
+use Rattle.std.proofs.Common.{◌≡◌, ◌<◌, ◌==◌, ℕ, List, [], ◌∷◌, ◌++◌, length, map, get_or, refl, sym, ap, ◌∙◌, arith, true, false, Bool, append_assoc, suc}
 use Rattle.std.proofs.lemmas.List.{append-nil}
-use Rattle.std.proofs.lemmas.List.{map-append}
 use Rattle.std.proofs.lemmas.Simd.{map-map}
 use Rattle.rocks_folders.specs.Places.{folders_of}
 
@@ -29,7 +28,7 @@ pub folders-joined : (part behind : List ℕ) → HasNoSlash part → folders_of
 folders-joined [] behind none = refl
 folders-joined (byte ∷ part) behind none =
     rw (no_slash_first byte part none, folders-joined part behind (no_slash_rest byte part none))
-        (ap (λ folders. (byte ∷ part) ∷ folders) (map-map (λ folder. byte ∷ folder) (λ folder. part ++ 47 ∷ folder) (folders_of behind)))
+    (ap (λ folders. (byte ∷ part) ∷ folders) (map-map (λ folder. byte ∷ folder) (λ folder. part ++ 47 ∷ folder) (folders_of behind)))
 
 with_nothing : (folders : List (List ℕ)) → map (λ folder. [] ++ folder) folders ≡ folders
 with_nothing [] = refl
@@ -44,9 +43,9 @@ pub at_next : (found now all : List (List ℕ)) (at next rest part behind : List
     → now ≡ found ++ (at ++ part) ∷ [] → next ≡ (at ++ part) ++ 47 ∷ [] → now ++ map (λ folder. next ++ folder) (folders_of behind) ≡ all
 at_next found now all at next rest part behind before is none more longer =
     let opened : map (λ folder. at ++ folder) (folders_of rest) ≡ (at ++ part) ∷ map (λ folder. next ++ folder) (folders_of behind) =
-        rw (is, folders-joined part behind none, longer)
-            (ap (λ folders. (at ++ part) ∷ folders) (map-map (λ folder. at ++ folder) (λ folder. part ++ 47 ∷ folder) (folders_of behind)
-                ∙ regrouped (folders_of behind))) in
+    rw (is, folders-joined part behind none, longer)
+    (ap (λ folders. (at ++ part) ∷ folders) (map-map (λ folder. at ++ folder) (λ folder. part ++ 47 ∷ folder) (folders_of behind)
+    ∙ regrouped (folders_of behind))) in
     rw more (append_assoc found ((at ++ part) ∷ []) (map (λ folder. next ++ folder) (folders_of behind)) ∙ ap (λ folders. found ++ folders) (sym opened) ∙ before)
   where
     regrouped : (folders : List (List ℕ)) → map (λ folder. at ++ (part ++ 47 ∷ folder)) folders ≡ map (λ folder. ((at ++ part) ++ 47 ∷ []) ++ folder) folders

@@ -2,11 +2,10 @@ ghost use Rattle.std.specs.Prelude.{◌≡◌, ◌≤◌, ◌<◌, ◌^◌, ◌-
 ghost use Rattle.rocks_outside.specs.Counts.{HasRisen};
 ghost use Rattle.rocks_outside.specs.Shelf.{IsRead, IsWithin, IsFolderListing};
 
-use crate::disk;
 use crate::disk::Stands;
 use crate::known_folders::KnownFolders;
 use crate::listing::paths_below;
-use crate::place;
+use crate::{disk, place};
 use rocks_outside::{Shelf, ShelfError, ShelfRead};
 use rocks_text::FilePath;
 use std::alloc::Global;

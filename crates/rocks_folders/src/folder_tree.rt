@@ -3,12 +3,11 @@ ghost use Rattle.rocks_folders.specs.Places.{changed_at};
 ghost use Rattle.rocks_folders.specs.Unsynced.{AreKept, AreSamePaths};
 ghost use Rattle.rocks_outside.specs.Device.{IsListing};
 
-use crate::disk;
 use crate::disk::{DiskError, Stands};
 use crate::known_folders::KnownFolders;
 use crate::listing::paths_from;
-use crate::place;
 use crate::unsynced::Unsynced;
+use crate::{disk, place};
 use rocks_outside::DeviceError;
 use rocks_text::TreePath;
 use std::alloc::Global;
@@ -43,10 +42,7 @@ impl<R: Files + AllocGlobal + Clone + Drop> FolderTree<R> {
     }
 
     /// The bytes of a file, or `None` where the path has no file.
-    pub(crate) fn read(
-        &mut self,
-        path: &TreePath,
-    ) -> Result<Option<Vec<u8>>, DeviceError> {
+    pub(crate) fn read(&mut self, path: &TreePath) -> Result<Option<Vec<u8>>, DeviceError> {
         match self.stands(path)? {
             Stands::Nothing | Stands::Folder => Ok(None),
             Stands::File { .. } => Ok(Some(disk::read_whole(
@@ -59,11 +55,7 @@ impl<R: Files + AllocGlobal + Clone + Drop> FolderTree<R> {
     }
 
     /// The paths of the files that begin with a prefix, in byte order.
-    pub(crate) fn list(
-        &self,
-        alloc: Global,
-        prefix: &str,
-    ) -> Result<Vec<TreePath>, DeviceError>
+    pub(crate) fn list(&self, alloc: Global, prefix: &str) -> Result<Vec<TreePath>, DeviceError>
         ensures { IfOk result (λ paths. IsListing prefix.now paths.items) }
     {
         let names = disk::sorted_files(&self.rt, self.root.as_str())?;
@@ -116,9 +108,10 @@ impl<R: Files + AllocGlobal + Clone + Drop> FolderTree<R> {
     fn stands(&mut self, path: &TreePath) -> Result<Stands, DeviceError>
         ensures { self.new.unsynced ≡ self.old.unsynced }
     {
-        Ok(self
-            .known
-            .stands_below(&self.rt, self.root.as_str(), path.as_str())?)
+        Ok(
+            self.known
+                .stands_below(&self.rt, self.root.as_str(), path.as_str())?,
+        )
     }
 
     // Fails where something stands at the path that no file can take the place of.

@@ -1,6 +1,5 @@
-use crate::disk;
 use crate::disk::{DiskError, Stands};
-use crate::place;
+use crate::{disk, place};
 use std::alloc::Global;
 use std::collections::BTreeSet;
 use std::rt::Files;

@@ -2,9 +2,8 @@ ghost use Rattle.std.specs.Prelude.{◌≡◌, ◌++◌, [], map, IfOk, OnOk, On
 ghost use Rattle.rocks_folders.specs.Places.{changed_at};
 ghost use Rattle.rocks_folders.specs.Unsynced.{AreSamePaths, IsDescending};
 
-use crate::disk;
 use crate::disk::{DiskError, Synced};
-use crate::place;
+use crate::{disk, place};
 use rocks_bytes::Text;
 use std::alloc::{AllocError, Global};
 use std::rt::Files;
@@ -51,7 +50,11 @@ impl Unsynced {
 
     /// Makes all that is noted durable, each path once and folders after what they hold. Nothing is noted then; where
     /// it fails, all stays noted.
-    pub(crate) fn sync<R: Files + AllocGlobal>(&mut self, rt: &R, root: &str) -> Result<(), DiskError>
+    pub(crate) fn sync<R: Files + AllocGlobal>(
+        &mut self,
+        rt: &R,
+        root: &str,
+    ) -> Result<(), DiskError>
         ensures paths { OnOk result (self.new.paths.items ≡ []) }
         ensures above { OnOk result (self.new.above.items ≡ []) }
         ensures paths_kept { OnErr result (AreSamePaths self.old.paths.items self.new.paths.items) }
