@@ -7,17 +7,21 @@ use std::{fs, io};
 
 /// The folders that were seen or made, so that none is looked at twice. Nobody else may write them meanwhile.
 ///
-/// They are roots, and folders below a root that are reached from it through folders alone.
+/// The roots stand apart from the folders that are reached from a root through folders alone: a root may be a link, and
+/// it may stand below another root.
 #[derive(Drop)]
 pub(crate) struct KnownFolders {
-    whole_paths: BTreeSet<String>,
+    roots: BTreeSet<String>,
+    // Whole paths, each of a root and a relative path.
+    below: BTreeSet<String>,
 }
 
 impl KnownFolders {
     /// No folder is known.
     pub(crate) fn new(alloc: Global) -> KnownFolders {
         KnownFolders {
-            whole_paths: BTreeSet::new(alloc),
+            roots: BTreeSet::new(alloc),
+            below: BTreeSet::new(alloc),
         }
     }
 
@@ -27,12 +31,12 @@ impl KnownFolders {
         rt: &R,
         root: &str,
     ) -> Result<bool, DiskError> {
-        if self.whole_paths.contains(root) {
+        if self.roots.contains(root) {
             return Ok(true);
         }
         let stands = disk::has_root(rt, root)?;
         if stands {
-            self.add(rt, root)?;
+            self.roots.insert(String::from_str(rt.alloc(), root)?)?;
         }
         Ok(stands)
     }
@@ -73,7 +77,7 @@ impl KnownFolders {
                 Stands::Nothing => {
                     let at = place::join(rt.alloc(), root, folder.as_str())?;
                     fs::create_dir(rt, at.as_str())?;
-                    self.add(rt, at.as_str())?;
+                    self.below.insert(at)?;
                 }
                 Stands::File { .. } | Stands::Other => return Err(DiskError::Failed),
             }
@@ -90,7 +94,7 @@ impl KnownFolders {
     ) -> Result<(), DiskError> {
         for folder in place::folders_of(rt.alloc(), path)?.iter().rev() {
             let at = place::join(rt.alloc(), root, folder.as_str())?;
-            self.whole_paths.remove(at.as_str());
+            self.below.remove(at.as_str());
             match fs::remove_dir(rt, at.as_str()) {
                 Ok(()) => {}
                 Err(error) if error.kind() == io::ErrorKind::DirectoryNotEmpty => return Ok(()),
@@ -108,19 +112,13 @@ impl KnownFolders {
         folder: &str,
     ) -> Result<Stands, DiskError> {
         let at = place::join(rt.alloc(), root, folder)?;
-        if self.whole_paths.contains(at.as_str()) {
+        if self.below.contains(at.as_str()) {
             return Ok(Stands::Folder);
         }
         let stands = disk::stands_at(rt, at.as_str())?;
         if stands == Stands::Folder {
-            self.add(rt, at.as_str())?;
+            self.below.insert(at)?;
         }
         Ok(stands)
-    }
-
-    fn add<R: Files + AllocGlobal>(&mut self, rt: &R, whole: &str) -> Result<(), DiskError> {
-        self.whole_paths
-            .insert(String::from_str(rt.alloc(), whole)?)?;
-        Ok(())
     }
 }

@@ -5,6 +5,7 @@ use rocks_outside::{Device, DeviceError, Shelf, ShelfError, ShelfRead, Source};
 use rocks_text::{FilePath, TreePath};
 use std::alloc::Global;
 use std::fs;
+use std::os::unix::fs::symlink;
 use std::test::Fail;
 
 /// A call of a device.
@@ -21,7 +22,7 @@ fn tree_path(alloc: Global, text: &str) -> Result<TreePath, Fail> {
     Ok(TreePath::from_text(alloc, text)?)
 }
 
-fn call<D: Device>(alloc: Global, device: &mut D, call: &Call) -> Result<bool, Fail> {
+fn is_done<D: Device>(alloc: Global, device: &mut D, call: &Call) -> Result<bool, Fail> {
     let answer = match call {
         Call::Write(path, bytes) => device.write(&tree_path(alloc, path)?, bytes.as_bytes()),
         Call::Rename(from, to) => {
@@ -66,7 +67,11 @@ fn a_real_tree_keeps_what_is_written(rt: HostRuntime) -> Result<(), Fail> {
         (Call::Sync, true, "a/b/c=3;b=1;"),
         (Call::Rename("b", "a/b/c"), true, "a/b/c=1;"),
         (Call::Rename("a/b/c", "d/e/f"), true, "d/e/f=1;"),
-        (Call::Write("a", "now a file"), true, "a=now a file;d/e/f=1;"),
+        (
+            Call::Write("a", "now a file"),
+            true,
+            "a=now a file;d/e/f=1;",
+        ),
         (Call::Rename("d/e/f", "d/e"), false, "a=now a file;d/e/f=1;"),
         (Call::Rename("d/e", "g"), true, "a=now a file;d/e/f=1;"),
         (Call::Remove("d/e"), true, "a=now a file;d/e/f=1;"),
@@ -79,7 +84,7 @@ fn a_real_tree_keeps_what_is_written(rt: HostRuntime) -> Result<(), Fail> {
         (Call::Say("said\n"), true, "a=now a file;d/x=6;"),
         (Call::Sync, true, "a=now a file;d/x=6;"),
     ] {
-        assert_eq!(rt; call(alloc, &mut device, &step)?, done, "{step:?}");
+        assert_eq!(rt; is_done(alloc, &mut device, &step)?, done, "{step:?}");
         assert_eq!(rt; files(alloc, &mut device, "")?.as_str(), told, "{step:?}");
     }
     assert_eq!(rt; files(alloc, &mut device, "d/")?.as_str(), "d/x=6;");
@@ -94,13 +99,25 @@ fn folders_that_become_empty_go_and_the_tree_stays(rt: HostRuntime) -> Result<()
     let mut device = FolderDevice::new(rt, String::from_str(alloc, "tree")?);
     // A call, the folders that stand after it, and those that don't.
     for (step, stand, gone) in [
-        (Call::Write("a/b/c/d", "1"), ["tree/a/b", "tree/a/b/c"], "tree/x"),
-        (Call::Write("a/e/f", "2"), ["tree/a/e", "tree/a/b/c"], "tree/x"),
-        (Call::Rename("a/b/c/d", "x/y"), ["tree/a/e", "tree/x"], "tree/a/b"),
+        (
+            Call::Write("a/b/c/d", "1"),
+            ["tree/a/b", "tree/a/b/c"],
+            "tree/x",
+        ),
+        (
+            Call::Write("a/e/f", "2"),
+            ["tree/a/e", "tree/a/b/c"],
+            "tree/x",
+        ),
+        (
+            Call::Rename("a/b/c/d", "x/y"),
+            ["tree/a/e", "tree/x"],
+            "tree/a/b",
+        ),
         (Call::Remove("x/y"), ["tree/a/e", "tree"], "tree/x"),
         (Call::Remove("a/e/f"), ["tree", "."], "tree/a"),
     ] {
-        assert!(rt; call(alloc, &mut device, &step)?, "{step:?}");
+        assert!(rt; is_done(alloc, &mut device, &step)?, "{step:?}");
         for folder in stand {
             assert!(rt; fs::exists(&rt, folder)?, "{step:?} {folder}");
         }
@@ -195,7 +212,49 @@ fn real_servers_give_what_they_hold(rt: HostRuntime) -> Result<(), Fail> {
         (1, "r", "a;"),
         (2, "r", "fault"),
     ] {
-        assert_eq!(rt; listed(alloc, &mut shelf, server, folder)?.as_str(), wanted, "{folder}");
+        assert_eq!(rt;
+            listed(alloc, &mut shelf, server, folder)?.as_str(),
+            wanted,
+            "{folder}"
+        );
+    }
+    Ok(())
+}
+
+#[test]
+fn no_link_below_a_root_is_followed(rt: HostRuntime) -> Result<(), Fail> {
+    let alloc = rt.alloc();
+    for folder in ["outside", "tree"] {
+        fs::create_dir(&rt, folder)?;
+    }
+    fs::write(&rt, "outside/a", "1")?;
+    symlink(&rt, "../outside", "tree/link")?;
+    let mut device = FolderDevice::new(rt, String::from_str(alloc, "tree")?);
+    for step in [
+        Call::Write("link/b", "2"),
+        Call::Write("link", "2"),
+        Call::Remove("link/a"),
+        Call::Rename("link/a", "c"),
+        Call::Rename("link", "c"),
+    ] {
+        assert!(rt; !is_done(alloc, &mut device, &step)?, "{step:?}");
+    }
+    assert!(rt; device.list(alloc, "").is_err());
+    assert!(rt; fs::exists(&rt, "outside/a")?);
+    assert!(rt; !fs::exists(&rt, "outside/b")?);
+
+    // A root may be a link, also one that stands below another root.
+    let mut roots = Vec::new(alloc);
+    for root in ["tree/link", "tree"] {
+        roots.push(String::from_str(alloc, root)?)?;
+    }
+    let mut shelf = FolderShelf::new(rt, roots);
+    for (server, path, wanted) in [(0, "a", "1"), (1, "link/a", "fault"), (1, "a", "absent")] {
+        let path = FilePath::from_text(alloc, path)?;
+        if server < shelf.servers() {
+            let read = shelf.read(alloc, server, &path, 9);
+            assert_eq!(rt; told(alloc, read)?.as_str(), wanted, "{server} {path:?}");
+        }
     }
     Ok(())
 }
