@@ -1,4 +1,4 @@
-//! The real objects over real folders. A test starts in an empty folder of its own.
+//! The real objects over real folders. Each test has a folder of its own, named after it.
 
 use rocks_folders::{FolderDevice, FolderShelf, StdSource};
 use rocks_outside::{Device, DeviceError, Shelf, ShelfError, ShelfRead, Source};
@@ -16,6 +16,15 @@ enum Call {
     Remove(&'static str),
     Sync,
     Say(&'static str),
+}
+
+// Makes a test's folder, empty.
+fn fresh(rt: &HostRuntime, folder: &str) -> Result<(), Fail> {
+    if fs::exists(rt, folder)? {
+        fs::remove_dir_all(rt, folder)?;
+    }
+    fs::create_dir(rt, folder)?;
+    Ok(())
 }
 
 fn tree_path(alloc: Global, text: &str) -> Result<TreePath, Fail> {
@@ -52,7 +61,8 @@ fn files<D: Device>(alloc: Global, device: &mut D, prefix: &str) -> Result<Strin
 #[test]
 fn a_real_tree_keeps_what_is_written(rt: HostRuntime) -> Result<(), Fail> {
     let alloc = rt.alloc();
-    let mut device = FolderDevice::new(rt, String::from_str(alloc, "far/tree/")?);
+    fresh(&rt, "written")?;
+    let mut device = FolderDevice::new(rt, String::from_str(alloc, "written/far/tree/")?);
     assert_eq!(rt; files(alloc, &mut device, "")?.as_str(), "");
     // A call, whether it is done, and the files after it.
     for (step, done, told) in [
@@ -90,32 +100,42 @@ fn a_real_tree_keeps_what_is_written(rt: HostRuntime) -> Result<(), Fail> {
     assert_eq!(rt; files(alloc, &mut device, "d/")?.as_str(), "d/x=6;");
     let of_a_folder = device.read(alloc, &tree_path(alloc, "d")?)?;
     assert!(rt; of_a_folder.is_none());
+    fs::remove_dir_all(&rt, "written")?;
     Ok(())
 }
 
 #[test]
 fn folders_that_become_empty_go_and_the_tree_stays(rt: HostRuntime) -> Result<(), Fail> {
     let alloc = rt.alloc();
-    let mut device = FolderDevice::new(rt, String::from_str(alloc, "tree")?);
+    fresh(&rt, "emptied")?;
+    let mut device = FolderDevice::new(rt, String::from_str(alloc, "emptied/tree")?);
     // A call, the folders that stand after it, and those that don't.
     for (step, stand, gone) in [
         (
             Call::Write("a/b/c/d", "1"),
-            ["tree/a/b", "tree/a/b/c"],
-            "tree/x",
+            ["emptied/tree/a/b", "emptied/tree/a/b/c"],
+            "emptied/tree/x",
         ),
         (
             Call::Write("a/e/f", "2"),
-            ["tree/a/e", "tree/a/b/c"],
-            "tree/x",
+            ["emptied/tree/a/e", "emptied/tree/a/b/c"],
+            "emptied/tree/x",
         ),
         (
             Call::Rename("a/b/c/d", "x/y"),
-            ["tree/a/e", "tree/x"],
-            "tree/a/b",
+            ["emptied/tree/a/e", "emptied/tree/x"],
+            "emptied/tree/a/b",
         ),
-        (Call::Remove("x/y"), ["tree/a/e", "tree"], "tree/x"),
-        (Call::Remove("a/e/f"), ["tree", "."], "tree/a"),
+        (
+            Call::Remove("x/y"),
+            ["emptied/tree/a/e", "emptied/tree"],
+            "emptied/tree/x",
+        ),
+        (
+            Call::Remove("a/e/f"),
+            ["emptied/tree", "."],
+            "emptied/tree/a",
+        ),
     ] {
         assert!(rt; is_done(alloc, &mut device, &step)?, "{step:?}");
         for folder in stand {
@@ -123,6 +143,7 @@ fn folders_that_become_empty_go_and_the_tree_stays(rt: HostRuntime) -> Result<()
         }
         assert!(rt; !fs::exists(&rt, gone)?, "{step:?} {gone}");
     }
+    fs::remove_dir_all(&rt, "emptied")?;
     Ok(())
 }
 
@@ -163,19 +184,25 @@ fn listed<S: Shelf>(
 /// Two servers, and one that isn't there.
 fn real_shelf(rt: HostRuntime) -> Result<FolderShelf<HostRuntime>, Fail> {
     let alloc = rt.alloc();
-    for folder in ["one", "one/r", "one/r/s", "two", "two/r"] {
+    for folder in [
+        "served/one",
+        "served/one/r",
+        "served/one/r/s",
+        "served/two",
+        "served/two/r",
+    ] {
         fs::create_dir(&rt, folder)?;
     }
     for (path, bytes) in [
-        ("one/r/a", "of one"),
-        ("one/r/s/c", "deep"),
-        ("one/r/s-t", "between"),
-        ("two/r/a", "of two"),
+        ("served/one/r/a", "of one"),
+        ("served/one/r/s/c", "deep"),
+        ("served/one/r/s-t", "between"),
+        ("served/two/r/a", "of two"),
     ] {
         fs::write(&rt, path, bytes)?;
     }
     let mut roots = Vec::new(alloc);
-    for root in ["one", "two/", "three"] {
+    for root in ["served/one", "served/two/", "served/three"] {
         roots.push(String::from_str(alloc, root)?)?;
     }
     Ok(FolderShelf::new(rt, roots))
@@ -184,6 +211,7 @@ fn real_shelf(rt: HostRuntime) -> Result<FolderShelf<HostRuntime>, Fail> {
 #[test]
 fn real_servers_give_what_they_hold(rt: HostRuntime) -> Result<(), Fail> {
     let alloc = rt.alloc();
+    fresh(&rt, "served")?;
     let mut shelf = real_shelf(rt)?;
     assert_eq!(rt; shelf.servers(), 3);
     // A server, a path, a limit, and what is told.
@@ -218,18 +246,20 @@ fn real_servers_give_what_they_hold(rt: HostRuntime) -> Result<(), Fail> {
             "{folder}"
         );
     }
+    fs::remove_dir_all(&rt, "served")?;
     Ok(())
 }
 
 #[test]
 fn no_link_below_a_root_is_followed(rt: HostRuntime) -> Result<(), Fail> {
     let alloc = rt.alloc();
-    for folder in ["outside", "tree"] {
+    fresh(&rt, "linked")?;
+    for folder in ["linked/outside", "linked/tree"] {
         fs::create_dir(&rt, folder)?;
     }
-    fs::write(&rt, "outside/a", "1")?;
-    symlink(&rt, "../outside", "tree/link")?;
-    let mut device = FolderDevice::new(rt, String::from_str(alloc, "tree")?);
+    fs::write(&rt, "linked/outside/a", "1")?;
+    symlink(&rt, "../outside", "linked/tree/link")?;
+    let mut device = FolderDevice::new(rt, String::from_str(alloc, "linked/tree")?);
     for step in [
         Call::Write("link/b", "2"),
         Call::Write("link", "2"),
@@ -240,12 +270,12 @@ fn no_link_below_a_root_is_followed(rt: HostRuntime) -> Result<(), Fail> {
         assert!(rt; !is_done(alloc, &mut device, &step)?, "{step:?}");
     }
     assert!(rt; device.list(alloc, "").is_err());
-    assert!(rt; fs::exists(&rt, "outside/a")?);
-    assert!(rt; !fs::exists(&rt, "outside/b")?);
+    assert!(rt; fs::exists(&rt, "linked/outside/a")?);
+    assert!(rt; !fs::exists(&rt, "linked/outside/b")?);
 
     // A root may be a link, also one that stands below another root.
     let mut roots = Vec::new(alloc);
-    for root in ["tree/link", "tree"] {
+    for root in ["linked/tree/link", "linked/tree"] {
         roots.push(String::from_str(alloc, root)?)?;
     }
     let mut shelf = FolderShelf::new(rt, roots);
@@ -256,36 +286,41 @@ fn no_link_below_a_root_is_followed(rt: HostRuntime) -> Result<(), Fail> {
             assert_eq!(rt; told(alloc, read)?.as_str(), wanted, "{server} {path:?}");
         }
     }
+    fs::remove_dir_all(&rt, "linked")?;
     Ok(())
 }
 
 #[test]
 fn many_files_are_listed(rt: HostRuntime) -> Result<(), Fail> {
     let alloc = rt.alloc();
-    let mut device = FolderDevice::new(rt, String::from_str(alloc, "s")?);
+    fresh(&rt, "many")?;
+    let mut device = FolderDevice::new(rt, String::from_str(alloc, "many/s")?);
     for number in 0..600u32 {
         let path = format!(in alloc; "r/{number}/{number}")?;
         device.write(&tree_path(alloc, path.as_str())?, b"1")?;
     }
     let mut roots = Vec::new(alloc);
-    roots.push(String::from_str(alloc, "s")?)?;
+    roots.push(String::from_str(alloc, "many/s")?)?;
     let mut shelf = FolderShelf::new(rt, roots);
     if shelf.servers() > 0 {
         let paths = shelf.list(alloc, 0, &FilePath::from_text(alloc, "r")?)?;
         assert_eq!(rt; paths.len(), 600);
     }
+    fs::remove_dir_all(&rt, "many")?;
     Ok(())
 }
 
 #[test]
 fn a_fault_of_a_real_tree_is_answered(rt: HostRuntime) -> Result<(), Fail> {
     let alloc = rt.alloc();
-    fs::write(&rt, "file", "")?;
-    for root in ["", "file", "file/below"] {
+    fresh(&rt, "faulty")?;
+    fs::write(&rt, "faulty/file", "")?;
+    for root in ["", "faulty/file", "faulty/file/below"] {
         let mut device = FolderDevice::new(rt, String::from_str(alloc, root)?);
         let write = device.write(&tree_path(alloc, "a")?, b"1");
         assert_eq!(rt; write, Err(DeviceError::Failed), "{root}");
     }
+    fs::remove_dir_all(&rt, "faulty")?;
     Ok(())
 }
 
