@@ -9,14 +9,15 @@ use Rattle.lua_lexer.specs.declared.element.Lexeme.TheVariants as lexemes
 use Rattle.lua_lexer.specs.declared.token.TokenKind.TheVariants as kinds
 use Rattle.lua_lexer.specs.declared.vocabulary.Symbol.{Symbol}
 use Rattle.lua_lexer.specs.declared.vocabulary.Symbol.TheVariants.{Plus, Minus, Star, Slash, Percent, Caret, Hash, Amp, Tilde, Bar, ShiftLeft, ShiftRight, DoubleSlash, Equal, NotEqual, LessEqual, GreaterEqual, Less, Greater, Assign, OpenParen, CloseParen, OpenBrace, CloseBrace, OpenBracket, CloseBracket, DoubleColon, Semicolon, Colon, Comma, Dot, Concat, Dots}
-use Rattle.lua_lexer.specs.Alphabet.{is_space, is_digit, is_name_start, is_quote, begins_with}
+use Rattle.lua_names.specs.Names.{is_digit, is_name_start}
+use Rattle.lua_lexer.specs.Alphabet.{is_space, is_quote, begins_with}
 use Rattle.lua_lexer.specs.Vocabulary.{symbol_bytes}
 use Rattle.lua_lexer.specs.QuotedText.{piece_bytes, IsQuoted}
 use Rattle.lua_lexer.specs.LongBracket.{opening, closing, IsBracket}
-use Rattle.lua_lexer.specs.Spelling.{IsWord, IsNumeral, StandsBefore, FitsSome}
+use Rattle.lua_lexer.specs.Spelling.{IsNumeral, StandsBefore, FitsSome}
 use Rattle.lua_lexer.specs.Reading.{lexeme_of, begins_bracket}
 use Rattle.lua_lexer.proofs.Choices.{or_cases, and_cases}
-use Rattle.lua_lexer.proofs.Words.{keyword_is_word}
+use Rattle.lua_lexer.proofs.Words.{IsWord, name_is_word, keyword_word}
 use Rattle.lua_lexer.proofs.Integers.{integer_numeral}
 
 -- what may fit where this is announced
@@ -158,8 +159,8 @@ symbol_announced Dots after stands = (Dots, refl, tt)
 
 pub announced : (bytes after : List ℕ) → FitsSome bytes after → Announced (front_lexeme (bytes ++ after)) bytes after
 announced bytes after (inl numeral) = numeral_announced bytes after numeral
-announced bytes after (inr (kinds.Name name, spells)) = word_announced bytes after spells.1
-announced bytes after (inr (kinds.Keyword keyword, spells)) = word_announced bytes after (subst (λ (l : List ℕ). IsWord l) (sym spells) (keyword_is_word keyword))
+announced bytes after (inr (kinds.Name name, spells)) = word_announced bytes after (name_is_word bytes spells.1)
+announced bytes after (inr (kinds.Keyword keyword, spells)) = word_announced bytes after (keyword_word bytes keyword spells)
 announced bytes after (inr (kinds.Symbol symbol, spells)) = subst (λ (l : List ℕ). Announced (front_lexeme (l ++ after)) l after) (sym spells.0) (symbol_announced symbol after spells.1)
 announced bytes after (inr (kinds.Text text, inl quoted)) = quoted_announced text bytes after quoted
 announced bytes after (inr (kinds.Text text, inr bracket)) = bracket_announced bracket.0 bytes after bracket.2

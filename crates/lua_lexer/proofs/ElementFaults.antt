@@ -14,16 +14,18 @@ use Rattle.lua_lexer.specs.declared.token.TokenKind.{TokenKind}
 use Rattle.lua_lexer.specs.declared.token.TokenKind.TheVariants as kinds
 use Rattle.lua_lexer.specs.declared.vocabulary.Symbol.{Symbol}
 use Rattle.lua_lexer.specs.declared.vocabulary.Symbol.TheVariants.{Minus, OpenBracket}
-use Rattle.lua_lexer.specs.Alphabet.{is_digit, is_name_start, is_name_byte, is_numeral_byte, is_quote, value, begins_with}
+use Rattle.lua_names.specs.Names.{is_digit, is_name_start, is_name_byte}
+use Rattle.lua_lexer.specs.Alphabet.{is_numeral_byte, is_quote, value, begins_with}
 use Rattle.lua_lexer.specs.Vocabulary.{symbol_bytes}
 use Rattle.lua_lexer.specs.QuotedText.{piece_bytes, FailsToClose, ends_line}
 use Rattle.lua_lexer.specs.LongBracket.{Opens, StaysOpen}
-use Rattle.lua_lexer.specs.Spelling.{IsWord, IsNumeral, begins_numeral, IsInteger, StandsBefore, SpellsToken}
+use Rattle.lua_lexer.specs.Spelling.{IsNumeral, begins_numeral, IsInteger, StandsBefore, SpellsToken}
 use Rattle.lua_lexer.specs.Faults.{BeginsNothing, HasBadByte, HasOpenBracket, HasNumeral, Fails}
-use Rattle.lua_lexer.specs.Reading.{Outcome, then_with, or_cause, within, greatest, run, after_run, keyword_of, word_kind, first_of, with_rest, single_of, single_at, pair_at, dots_at, symbol_at, integer_of, numeral_at, bracket_at, comment_at, quoted_at, begins_bracket, lexeme_of, Read, symbol_by, lexeme_at, element_at, escape_fault, fault_at}
+use Rattle.lua_names.specs.Keywords.{keyword_of}
+use Rattle.lua_lexer.specs.Reading.{Outcome, then_with, or_cause, within, greatest, run, after_run, word_kind, first_of, with_rest, single_of, single_at, pair_at, dots_at, symbol_at, integer_of, numeral_at, bracket_at, comment_at, quoted_at, begins_bracket, lexeme_of, Read, symbol_by, lexeme_at, element_at, escape_fault, fault_at}
 use Rattle.lua_lexer.proofs.Choices.{err_is, or_cases, and_cases, and_both, true_not_false}
 use Rattle.lua_lexer.proofs.Runs.{run_then_rest, run_passes, rest_stops}
-use Rattle.lua_lexer.proofs.Words.{word_spells, keyword_is_word}
+use Rattle.lua_lexer.proofs.Words.{IsWord, word_spells, name_is_word, keyword_word}
 use Rattle.lua_lexer.proofs.Symbols.{single_sound, symbol_sound, symbol_begins}
 use Rattle.lua_lexer.proofs.Integers.{integer_again, integer_answer, integer_numeral}
 use Rattle.lua_lexer.proofs.EscapeFaults.{within_none, digit_weight}
@@ -166,8 +168,8 @@ begins_nothing b rest a none = (a.0, spelled)
     ]
 
     spelled : (kind : TokenKind) (more after : List ℕ) → SpellsToken kind (b ∷ more) after → ⊥
-    spelled (kinds.Name name) more after s = true_not_false (is_name_start b) s.1.0 a.1
-    spelled (kinds.Keyword keyword) more after s = let w : IsWord (b ∷ more) = subst (λ (l : List ℕ). IsWord l) (sym s) (keyword_is_word keyword) in true_not_false (is_name_start b) w.0 a.1
+    spelled (kinds.Name name) more after s = true_not_false (is_name_start b) (name_is_word (b ∷ more) s.1).0 a.1
+    spelled (kinds.Keyword keyword) more after s = true_not_false (is_name_start b) (keyword_word (b ∷ more) keyword s).0 a.1
     spelled (kinds.Symbol symbol) more after s = no_symbol_begins b symbol more none s.0
     spelled (kinds.Text text) more after (inl q) = let head : b ≡ q.quote = (let h = q.spelled in cc) in true_not_false (is_quote b) (subst (λ (c : ℕ). is_quote c ≡ true) (sym head) q.is_quote) a.3
     spelled (kinds.Text text) more after (inr l) = no_open (let h = l.2.spelled in cc)

@@ -13,16 +13,18 @@ use Rattle.lua_lexer.specs.declared.token.TokenKind.{TokenKind}
 use Rattle.lua_lexer.specs.declared.token.TokenKind.TheVariants as kinds
 use Rattle.lua_lexer.specs.declared.vocabulary.Symbol.{Symbol}
 use Rattle.lua_lexer.specs.declared.vocabulary.Symbol.TheVariants.{Minus, OpenBracket}
-use Rattle.lua_lexer.specs.Alphabet.{is_space, is_digit, is_name_start, is_name_byte, is_numeral_byte, is_quote, begins_with}
+use Rattle.lua_names.specs.Names.{is_digit, is_name_start, is_name_byte}
+use Rattle.lua_lexer.specs.Alphabet.{is_space, is_numeral_byte, is_quote, begins_with}
 use Rattle.lua_lexer.specs.Vocabulary.{symbol_bytes}
 use Rattle.lua_lexer.specs.QuotedText.{IsQuoted}
 use Rattle.lua_lexer.specs.LongBracket.{long_text, IsBracket}
-use Rattle.lua_lexer.specs.Spelling.{IsWord, IsNumeral, begins_numeral, IsInteger, StandsBefore, IsLongest, Element, Gap, Spelled, element_bytes, FitsElement}
-use Rattle.lua_lexer.specs.Reading.{Outcome, then_with, or_cause, within, greatest, run, after_run, keyword_of, word_kind, word_at, symbol_at, integer_of, numeral_at, bracket_at, comment_at, quoted_at, begins_bracket, lexeme_of, Read, symbol_by, lexeme_at, element_at}
+use Rattle.lua_lexer.specs.Spelling.{IsNumeral, begins_numeral, IsInteger, StandsBefore, IsLongest, Element, Gap, Spelled, element_bytes, FitsElement}
+use Rattle.lua_names.specs.Keywords.{keyword_of}
+use Rattle.lua_lexer.specs.Reading.{Outcome, then_with, or_cause, within, greatest, run, after_run, word_kind, word_at, symbol_at, integer_of, numeral_at, bracket_at, comment_at, quoted_at, begins_bracket, lexeme_of, Read, symbol_by, lexeme_at, element_at}
 use Rattle.lua_lexer.proofs.Choices.{ok_is, some_is, or_cases, and_cases, true_not_false}
 use Rattle.lua_lexer.proofs.Runs.{run_then_rest, run_passes, rest_stops}
 use Rattle.lua_lexer.proofs.Appended.{no_more}
-use Rattle.lua_lexer.proofs.Words.{word_spells}
+use Rattle.lua_lexer.proofs.Words.{IsWord, word_spells}
 use Rattle.lua_lexer.proofs.Symbols.{symbol_sound, symbol_reaches, symbol_begins}
 use Rattle.lua_lexer.proofs.Integers.{integer_answer}
 use Rattle.lua_lexer.proofs.Escapes.{within_is}

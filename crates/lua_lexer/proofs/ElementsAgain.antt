@@ -11,16 +11,19 @@ use Rattle.lua_lexer.specs.declared.stop.Cause.TheVariants as causes
 use Rattle.lua_lexer.specs.declared.token.TokenKind.TheVariants as kinds
 use Rattle.lua_lexer.specs.declared.vocabulary.Symbol.{Symbol}
 use Rattle.lua_lexer.specs.declared.vocabulary.Symbol.TheVariants.{Dot, Minus, OpenBracket}
-use Rattle.lua_lexer.specs.Alphabet.{is_space, is_digit, is_name_start, is_name_byte, is_numeral_byte, begins_with}
+use Rattle.lua_names.specs.Names.{is_digit, is_name_start, is_name_byte}
+use Rattle.lua_lexer.specs.Alphabet.{is_space, is_numeral_byte, begins_with}
 use Rattle.lua_lexer.specs.Vocabulary.{symbol_bytes}
 use Rattle.lua_lexer.specs.QuotedText.{piece_bytes, IsQuoted}
 use Rattle.lua_lexer.specs.LongBracket.{opening, closing, long_text, IsBracket}
-use Rattle.lua_lexer.specs.Spelling.{IsWord, IsNumeral, begins_numeral, IsInteger, StandsBefore, FitsSome, IsLongest, Element, Gap, Spelled, element_bytes, FitsElement}
-use Rattle.lua_lexer.specs.Reading.{Outcome, then_with, or_cause, greatest, after_run, keyword_of, word_kind, word_at, symbol_at, integer_of, numeral_at, bracket_at, comment_at, quoted_at, lexeme_of, Read, symbol_by, lexeme_at, element_at}
+use Rattle.lua_lexer.specs.Spelling.{IsNumeral, begins_numeral, IsInteger, StandsBefore, FitsSome, IsLongest, Element, Gap, Spelled, element_bytes, FitsElement}
+use Rattle.lua_names.specs.Keywords.{keyword_of}
+use Rattle.lua_lexer.specs.Reading.{Outcome, then_with, or_cause, greatest, after_run, word_kind, word_at, symbol_at, integer_of, numeral_at, bracket_at, comment_at, quoted_at, lexeme_of, Read, symbol_by, lexeme_at, element_at}
 use Rattle.lua_lexer.proofs.Choices.{or_cases, and_cases, and_both}
 use Rattle.lua_lexer.proofs.Runs.{run_is}
 use Rattle.lua_lexer.proofs.Appended.{append_after, fronts}
-use Rattle.lua_lexer.proofs.Words.{word_spells, name_again, keyword_again, keyword_is_word}
+use Rattle.lua_names.proofs.KeywordTable.{keyword_again}
+use Rattle.lua_lexer.proofs.Words.{IsWord, word_spells, name_again, name_is_word, keyword_word}
 use Rattle.lua_lexer.proofs.Symbols.{symbol_sound, symbol_reaches, symbol_begins, symbol_one}
 use Rattle.lua_lexer.proofs.Integers.{integer_again, integer_numeral}
 use Rattle.lua_lexer.proofs.Escapes.{within_some}
@@ -226,9 +229,9 @@ element_reads (Gap bytes) after (inl s) =
 element_reads (Gap bytes) after (inr (inl c)) = on_comment bytes after c.line c.spelled (short_again bytes after c)
 element_reads (Gap bytes) after (inr (inr c)) = on_comment bytes after c.bracket_bytes c.spelled (long_again bytes after c)
 element_reads (Spelled (kinds.Name name) bytes) after fits =
-    word_reads bytes after fits.0.1 fits.1 ∙ ap (λ (o : Option _). Ok (Some (word_kind o bytes), after)) (name_again bytes fits.0.2) ∙ ap (λ (l : List ℕ). Ok (Some (kinds.Name l), after)) fits.0.0
+    word_reads bytes after (name_is_word bytes fits.0.1) fits.1 ∙ ap (λ (o : Option _). Ok (Some (word_kind o bytes), after)) (name_again bytes fits.0.1) ∙ ap (λ (l : List ℕ). Ok (Some (kinds.Name l), after)) fits.0.0
 element_reads (Spelled (kinds.Keyword keyword) bytes) after fits =
-    word_reads bytes after (subst (λ (l : List ℕ). IsWord l) (sym fits.0) (keyword_is_word keyword)) fits.1
+    word_reads bytes after (keyword_word bytes keyword fits.0) fits.1
     ∙ ap (λ (o : Option _). Ok (Some (word_kind o bytes), after)) (ap keyword_of fits.0 ∙ keyword_again keyword)
 element_reads (Spelled (kinds.Symbol symbol) bytes) after fits =
     ap (λ (l : List ℕ). element_at (l ++ after)) fits.0.0 ∙ symbol_reads symbol after fits.0.1 (subst (λ (l : List ℕ). IsLongest l after) fits.0.0 fits.1)

@@ -6,7 +6,8 @@ use Rattle.std.proofs.lemmas.Bool.{eqb-true, ltb-true, ltb-false, leb-true, leb-
 use Rattle.std.proofs.lemmas.Bool.Decides.{nat_tests}
 use Rattle.std.proofs.lemmas.List.{nil_from_length}
 use Rattle.lua_lexer.specs.declared.escape.Meaning.TheVariants as meanings
-use Rattle.lua_lexer.specs.Alphabet.{is_space, is_line_break, is_digit, is_hexadecimal, digit_of, value, begins_with}
+use Rattle.lua_names.specs.Names.{is_digit}
+use Rattle.lua_lexer.specs.Alphabet.{is_space, is_line_break, is_hexadecimal, digit_of, value, begins_with}
 use Rattle.lua_lexer.specs.QuotedText.{Piece, Plain, Letter, Break, Hexadecimal, Decimal, Skip, Unicode, piece_bytes, letter_value, IsBreak, IsPiece, BeginsPiece}
 use Rattle.lua_lexer.specs.LongBracket.{without_break}
 use Rattle.lua_lexer.specs.Reading.{run, after_run, Escape, within, low_digit, high_digit, hexadecimal_at, decimal_by, decimal_at, code_end, code_at, first_code, unicode_at, letter_by, escape_z, escape_u, escape_x, escape_digit, escape_at}

@@ -6,7 +6,8 @@ use Rattle.std.proofs.lemmas.Bool.{eqb-true}
 use Rattle.std.proofs.lemmas.Bool.Decides.{nat_tests}
 use Rattle.lua_lexer.specs.declared.stop.Cause.{Cause}
 use Rattle.lua_lexer.specs.declared.stop.Cause.TheVariants as causes
-use Rattle.lua_lexer.specs.Alphabet.{is_digit, is_numeral_byte, is_hexadecimal, digit_of, value, begins_with}
+use Rattle.lua_names.specs.Names.{is_digit}
+use Rattle.lua_lexer.specs.Alphabet.{is_numeral_byte, is_hexadecimal, digit_of, value, begins_with}
 use Rattle.lua_lexer.specs.Spelling.{IsNumeral, begins_numeral, IsInteger}
 use Rattle.lua_lexer.specs.Reading.{within, greatest, or_cause, hexadecimal_digits, integer_by, integer_of}
 use Rattle.lua_lexer.proofs.Choices.{chosen, err_is, some_is, and_cases, and_both, true_not_false}

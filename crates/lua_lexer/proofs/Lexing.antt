@@ -11,12 +11,12 @@ use Rattle.lua_lexer.specs.declared.token.Token.{Token}
 use Rattle.lua_lexer.specs.declared.token.TokenKind.{TokenKind}
 use Rattle.lua_lexer.specs.declared.token.TokenKind.TheVariants as kinds
 use Rattle.lua_lexer.specs.Turns.{InTurn}
-use Rattle.lua_lexer.specs.TokenLists.{IsInRange, EndsOnce}
-use Rattle.lua_lexer.specs.Spelling.{IsWord, begins_numeral, SpellsToken, Element, Gap, Spelled, element_bytes, FitsElement, tokens_from, Spells}
+use Rattle.lua_lexer.specs.TokenLists.{EndsOnce}
+use Rattle.lua_lexer.specs.Spelling.{begins_numeral, SpellsToken, Element, Gap, Spelled, element_bytes, FitsElement, tokens_from, Spells}
 use Rattle.lua_lexer.specs.Faults.{FailsAt, HasFault}
 use Rattle.lua_lexer.specs.Reading.{Outcome, then_with, ahead, items_by, items_for, items, Read, element_at, sized, item_at, placed, tokens_at, fault_at, placed_faults, lex}
 use Rattle.lua_lexer.proofs.Choices.{chosen, ok_is, err_is, some_is}
-use Rattle.lua_lexer.proofs.Words.{keyword_is_word}
+use Rattle.lua_lexer.proofs.Words.{IsWord, name_is_word, keyword_word}
 use Rattle.lua_lexer.proofs.Symbols.{symbol_begins}
 use Rattle.lua_lexer.proofs.Integers.{integer_numeral}
 use Rattle.lua_lexer.proofs.Items.{Shrinks, unroll, IsReading, fronted, read_sound, read_stuck, read_again}
@@ -78,8 +78,8 @@ pub fits_some : (element : Element) (after : List ℕ) → FitsElement element a
 fits_some (Gap bytes) after (inl s) = let l = ap length s.1 in omega arith
 fits_some (Gap bytes) after (inr (inl c)) = let l = ap length c.spelled in omega arith
 fits_some (Gap bytes) after (inr (inr c)) = let l = ap length c.spelled in omega arith
-fits_some (Spelled (kinds.Name name) bytes) after fits = word_some bytes fits.0.1
-fits_some (Spelled (kinds.Keyword keyword) bytes) after fits = word_some bytes (subst (λ (l : List ℕ). IsWord l) (sym fits.0) (keyword_is_word keyword))
+fits_some (Spelled (kinds.Name name) bytes) after fits = word_some bytes (name_is_word bytes fits.0.1)
+fits_some (Spelled (kinds.Keyword keyword) bytes) after fits = word_some bytes (keyword_word bytes keyword fits.0)
 fits_some (Spelled (kinds.Symbol symbol) bytes) after fits = let l = ap length (fits.0.0 ∙ (symbol_begins symbol).2) in omega arith
 fits_some (Spelled (kinds.Text text) bytes) after (inl q, longest) = let l = ap length q.spelled in omega arith
 fits_some (Spelled (kinds.Text text) bytes) after (inr b, longest) = let l = ap length b.2.spelled in omega arith
@@ -315,24 +315,16 @@ lex_fault_again text faults.NoMemory h = absurd h
 no_end : (kind : TokenKind) (bytes after : List ℕ) → SpellsToken kind bytes after → kind ≡ kinds.End → ⊥
 no_end kind bytes after s e = subst (λ (k : TokenKind). SpellsToken k bytes after) e s
 
-in_range : (kind : TokenKind) (bytes after : List ℕ) → SpellsToken kind bytes after → IsInRange kind
-in_range (kinds.Int n) bytes after s = s.1
-in_range (kinds.Name n) bytes after s = tt
-in_range (kinds.Keyword k) bytes after s = tt
-in_range (kinds.Symbol k) bytes after s = tt
-in_range (kinds.Text t) bytes after s = tt
-in_range kinds.End bytes after s = tt
-
-ends_more : (t : Token) (ts : List Token) → t.kind ≢ kinds.End → IsInRange t.kind → EndsOnce ts → EndsOnce (t ∷ ts)
-ends_more t [] differ small ends = absurd ends
-ends_more t (u ∷ ts) differ small ends = (differ, small, ends)
+ends_more : (t : Token) (ts : List Token) → t.kind ≢ kinds.End → EndsOnce ts → EndsOnce (t ∷ ts)
+ends_more t [] differ ends = absurd ends
+ends_more t (u ∷ ts) differ ends = (differ, ends)
 
 ends_once : (place : ℕ) (elements : List Element) (after : List ℕ) → InTurn element_bytes FitsElement elements after → EndsOnce (tokens_from place elements)
 ends_once place [] after turn = refl
 ends_once place (Gap bytes ∷ elements) after turn = ends_once (place + length bytes) elements after turn.1
 ends_once place (Spelled kind bytes ∷ elements) after turn =
     let rest : List ℕ = flat_map element_bytes elements ++ after in
-    ends_more (record { place = place; kind = kind }) (tokens_from (place + length bytes) elements) (no_end kind bytes rest turn.0.0) (in_range kind bytes rest turn.0.0) (ends_once (place + length bytes) elements after turn.1)
+    ends_more (record { place = place; kind = kind }) (tokens_from (place + length bytes) elements) (no_end kind bytes rest turn.0.0) (ends_once (place + length bytes) elements after turn.1)
 
 pub spells_ends : (text : List ℕ) (tokens : List Token) → Spells text tokens → EndsOnce tokens
 spells_ends text tokens s = subst (λ (ts : List Token). EndsOnce ts) (sym s.in_place) (ends_once 0 s.elements [] s.in_turn)

@@ -16,6 +16,7 @@ pub mod Elements
 pub mod ElementsAgain
 pub mod ElementFaults
 pub mod Lexing
+pub mod Ranges
 pub mod TokenLoop
 pub mod Whole
 pub mod QuotedLoop

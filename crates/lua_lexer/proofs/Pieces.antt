@@ -9,7 +9,8 @@ use Rattle.lua_lexer.specs.declared.escape.Meaning.{Meaning}
 use Rattle.lua_lexer.specs.declared.escape.Meaning.TheVariants as meanings
 use Rattle.lua_lexer.specs.declared.stop.Cause.{Cause}
 use Rattle.lua_lexer.specs.declared.stop.Cause.TheVariants as causes
-use Rattle.lua_lexer.specs.Alphabet.{is_space, is_line_break, is_digit, is_hexadecimal, is_quote, digit_of, value, begins_with}
+use Rattle.lua_names.specs.Names.{is_digit}
+use Rattle.lua_lexer.specs.Alphabet.{is_space, is_line_break, is_hexadecimal, is_quote, digit_of, value, begins_with}
 use Rattle.lua_lexer.specs.QuotedText.{Piece, Plain, Letter, Break, Hexadecimal, Decimal, Skip, Unicode, piece_bytes, letter_value, IsBreak, IsPiece, MayPrecede, FitsPiece}
 use Rattle.lua_lexer.specs.LongBracket.{without_break}
 use Rattle.lua_lexer.specs.Reading.{Outcome, run, Escape, within, low_digit, high_digit, hexadecimal_at, decimal_by, decimal_at, code_end, code_at, unicode_at, escape_x, escape_digit, escape_at, piece_by, piece_at}

@@ -7,7 +7,8 @@ use Rattle.lua_lexer.specs.declared.escape.Meaning.{Meaning}
 use Rattle.lua_lexer.specs.declared.escape.Meaning.TheVariants as meanings
 use Rattle.lua_lexer.specs.declared.stop.Cause.{Cause}
 use Rattle.lua_lexer.specs.declared.stop.Cause.TheVariants as causes
-use Rattle.lua_lexer.specs.Alphabet.{is_space, is_line_break, is_digit, is_quote, begins_with}
+use Rattle.lua_names.specs.Names.{is_digit}
+use Rattle.lua_lexer.specs.Alphabet.{is_space, is_line_break, is_quote, begins_with}
 use Rattle.lua_lexer.specs.Turns.{InTurn}
 use Rattle.lua_lexer.specs.QuotedText.{Piece, Plain, Letter, Break, Hexadecimal, Decimal, Skip, Unicode, piece_bytes, piece_text, IsPiece, MayPrecede, FitsPiece, IsQuoted, BeginsPiece, FailsToClose}
 use Rattle.lua_lexer.specs.Reading.{Outcome, then_with, ahead, Escape, escape_at, meaning_bytes, items_by, items, escape_fault, piece_by, piece_at, pieces_at, quoted_at}

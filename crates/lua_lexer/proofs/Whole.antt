@@ -1,5 +1,5 @@
 -- What the reader of a whole text answers, and the laws.
-use Rattle.std.proofs.Common.{◌≡◌, ℕ, ◌+◌, ◌<◌, ◌≤◌, List, [], ◌∷◌, ◌++◌, length, Result, Ok, Err, refl, sym, ap, subst, ◌∙◌, append_assoc, length-append, arith, inl, inr}
+use Rattle.std.proofs.Common.{◌≡◌, ℕ, ◌+◌, ◌<◌, ◌≤◌, List, [], ◌∷◌, ◌++◌, length, get_or, Result, Ok, Err, refl, sym, ap, subst, ◌∙◌, append_assoc, length-append, arith, inl, inr}
 use Rattle.std.specs.Prelude.{◌⊎◌}
 use Rattle.std.specs.List.{flat_map}
 use Rattle.std.proofs.lemmas.List.{append-nil}
@@ -11,13 +11,14 @@ use Rattle.lua_lexer.specs.declared.token.Token.{Token}
 use Rattle.lua_lexer.specs.declared.token.TokenKind.{TokenKind}
 use Rattle.lua_lexer.specs.declared.token.TokenKind.TheVariants as kinds
 use Rattle.lua_lexer.specs.Turns.{InTurn}
-use Rattle.lua_lexer.specs.TokenLists.{EndsOnce}
+use Rattle.lua_lexer.specs.TokenLists.{IsTokenList}
 use Rattle.lua_lexer.specs.Spelling.{SpellsToken, Element, Gap, Spelled, element_bytes, FitsElement, tokens_from, Spells}
 use Rattle.lua_lexer.specs.Faults.{HasFault}
 use Rattle.lua_lexer.specs.Laws.{Rises, StandsAs, EachStands}
 use Rattle.lua_lexer.specs.Reading.{Stops, fault_of, placed_faults, tokens_at, lex}
 use Rattle.lua_lexer.proofs.Choices.{ok_is, err_is}
-use Rattle.lua_lexer.proofs.Lexing.{lex_sound, lex_again, lex_fault, lex_fault_again, lex_short, spells_ends, fits_some}
+use Rattle.lua_lexer.proofs.Lexing.{lex_sound, lex_again, lex_fault, lex_fault_again, lex_short, fits_some}
+use Rattle.lua_lexer.proofs.Ranges.{bytes_from, spells_list}
 
 abbrev Lexed : Type 0
 Lexed = Result (List Token) LexFault
@@ -33,8 +34,8 @@ right tokens = Ok tokens
 pub lexed : (text : List ℕ) (tokens : List Token) → length text ≤ 8388608 → tokens_at text ≡ Ok tokens → lex text ≡ Ok tokens
 lexed text tokens short e = lex_short text short ∙ ap (placed_faults text) e
 
-pub ends_lexed : (text : List ℕ) (tokens : List Token) → length text ≤ 8388608 → tokens_at text ≡ Ok tokens → EndsOnce tokens
-ends_lexed text tokens short e = spells_ends text tokens (lex_sound text tokens (lexed text tokens short e))
+pub list_lexed : (text : List ℕ) (tokens : List Token) → ((k : ℕ) → get_or text k 0 < 256) → length text ≤ 8388608 → tokens_at text ≡ Ok tokens → IsTokenList tokens
+list_lexed text tokens bytes short e = spells_list text tokens (bytes_from text bytes) (lex_sound text tokens (lexed text tokens short e))
 
 pub only_list : (text : List ℕ) (found tokens : List Token) → lex text ≡ Ok found → Spells text tokens → found ≡ tokens
 only_list text found tokens e s = ok_is faults.NoMemory found tokens (sym e ∙ lex_again text tokens s)

@@ -1,5 +1,6 @@
 -- The bytes of a Lua text and what runs of them are called (Lua 5.4 manual, section 3.1).
 use Rattle.std.specs.Prelude.{ℕ, ◌+◌, ◌-◌, ◌*◌, Bool, false, ◌&&◌, ◌||◌, List, [], ◌∷◌, Option, Some, None, is_some, unwrap_or, nat_le, ◌==◌, if◌then◌else◌, fold}
+use Rattle.lua_names.specs.Names.{is_digit, is_name_byte}
 
 -- white space: the bytes from tab to carriage return, and the blank
 abbrev pub is_space : ℕ → Bool
@@ -8,16 +9,6 @@ is_space b = (nat_le 9 b && nat_le b 13) || b == 32
 -- the bytes of which line breaks consist: line feed and carriage return
 abbrev pub is_line_break : ℕ → Bool
 is_line_break b = b == 10 || b == 13
-
-abbrev pub is_digit : ℕ → Bool
-is_digit b = nat_le 48 b && nat_le b 57
-
--- letters and `_`
-abbrev pub is_name_start : ℕ → Bool
-is_name_start b = ((nat_le 65 b && nat_le b 90) || (nat_le 97 b && nat_le b 122)) || b == 95
-
-abbrev pub is_name_byte : ℕ → Bool
-is_name_byte b = is_name_start b || is_digit b
 
 -- what follows the first byte of a numeral
 abbrev pub is_numeral_byte : ℕ → Bool

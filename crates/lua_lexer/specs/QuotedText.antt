@@ -1,7 +1,8 @@
 -- Quoted texts: the pieces between the quotes, and what each stands for (Lua 5.4 manual, section 3.1).
 use Rattle.std.specs.Prelude.{◌≡◌, ◌≢◌, ℕ, ◌+◌, ◌/◌, ◌%◌, ◌<◌, ◌≤◌, ◌^◌, Bool, true, List, [], ◌∷◌, ◌++◌, length, Option, Some, None, unwrap_or, IsTrue, IsFalse, IsSome, nat_lt, ◌==◌, ◌&&◌, not, if◌then◌else◌}
 use Rattle.std.specs.List.{list_all, flat_map}
-use Rattle.lua_lexer.specs.Alphabet.{is_space, is_line_break, is_digit, is_hexadecimal, is_quote, value, begins_with}
+use Rattle.lua_names.specs.Names.{is_digit}
+use Rattle.lua_lexer.specs.Alphabet.{is_space, is_line_break, is_hexadecimal, is_quote, value, begins_with}
 use Rattle.lua_lexer.specs.Turns.{InTurn}
 
 pub data Piece : Type 0 where

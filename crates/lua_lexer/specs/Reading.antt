@@ -2,7 +2,7 @@
 -- Spelling and Faults is proved.
 use Rattle.std.specs.Prelude.{◌≡◌, ℕ, zero, suc, ◌+◌, ◌-◌, ◌*◌, ◌<◌, ◌≤◌, ◌^◌, Bool, ◌&&◌, ◌||◌, not, List, [], ◌∷◌, length, take, drop, Option, Some, None, Result, Ok, Err, unwrap_or, nat_lt, nat_le, ◌==◌, if◌then◌else◌}
 use Rattle.std.specs.List.{list_all, flat_map}
-use Rattle.std.specs.Str.{bytes_eq}
+use Rattle.lua_names.specs.Keywords.{keyword_of}
 use Rattle.lua_lexer.specs.declared.class.Class.{Class}
 use Rattle.lua_lexer.specs.declared.class.Class.TheVariants as classes
 use Rattle.lua_lexer.specs.declared.stop.Cause.{Cause}
@@ -18,12 +18,11 @@ use Rattle.lua_lexer.specs.declared.fault.LexFault.TheVariants as faults
 use Rattle.lua_lexer.specs.declared.token.Token.{Token}
 use Rattle.lua_lexer.specs.declared.token.TokenKind.{TokenKind}
 use Rattle.lua_lexer.specs.declared.token.TokenKind.TheVariants as kinds
-use Rattle.lua_lexer.specs.declared.vocabulary.Keyword.{Keyword}
-use Rattle.lua_lexer.specs.declared.vocabulary.Keyword.TheVariants as keywords
+use Rattle.lua_names.specs.declared.keyword.Keyword.{Keyword}
 use Rattle.lua_lexer.specs.declared.vocabulary.Symbol.{Symbol}
 use Rattle.lua_lexer.specs.declared.vocabulary.Symbol.TheVariants as symbols
-use Rattle.lua_lexer.specs.Alphabet.{is_space, is_line_break, is_digit, is_name_start, is_name_byte, is_numeral_byte, digit_of, is_hexadecimal, is_quote, value, begins_with}
-use Rattle.lua_lexer.specs.Vocabulary.{keyword_bytes}
+use Rattle.lua_names.specs.Names.{is_digit, is_name_start, is_name_byte}
+use Rattle.lua_lexer.specs.Alphabet.{is_space, is_line_break, is_numeral_byte, digit_of, is_hexadecimal, is_quote, value, begins_with}
 use Rattle.lua_lexer.specs.QuotedText.{letter_value, utf8, ends_line}
 use Rattle.lua_lexer.specs.LongBracket.{without_break, long_text}
 
@@ -83,17 +82,6 @@ first_of None other = other
 abbrev pub with_rest : {A : Type 0} → Option A → List ℕ → Option (A × List ℕ)
 with_rest None rest = None
 with_rest (Some x) rest = Some (x, rest)
-
--- the keyword in a table whose bytes these are
-abbrev pub keyword_among : List Keyword → List ℕ → Option Keyword
-keyword_among [] word = None
-keyword_among (k ∷ ks) word = if bytes_eq word (keyword_bytes k) then Some k else keyword_among ks word
-
-abbrev pub all_keywords : List Keyword
-all_keywords = keywords.And ∷ keywords.Break ∷ keywords.Do ∷ keywords.Else ∷ keywords.Elseif ∷ keywords.End ∷ keywords.False ∷ keywords.For ∷ keywords.Function ∷ keywords.Goto ∷ keywords.If ∷ keywords.In ∷ keywords.Local ∷ keywords.Nil ∷ keywords.Not ∷ keywords.Or ∷ keywords.Repeat ∷ keywords.Return ∷ keywords.Then ∷ keywords.True ∷ keywords.Until ∷ keywords.While ∷ []
-
-unfoldable pub keyword_of : List ℕ → Option Keyword
-keyword_of word = keyword_among all_keywords word
 
 abbrev pub word_kind : Option Keyword → List ℕ → TokenKind
 word_kind (Some keyword) word = kinds.Keyword keyword

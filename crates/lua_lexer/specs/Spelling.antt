@@ -1,23 +1,20 @@
 -- Which tokens a text spells (Lua 5.4 manual, section 3.1).
-use Rattle.std.specs.Prelude.{◌≡◌, ◌≢◌, ℕ, ◌+◌, ◌≤◌, Bool, false, ◌&&◌, ◌||◌, not, List, [], ◌∷◌, ◌++◌, length, IsTrue, IsFalse, ◌==◌, ◌⊎◌}
+use Rattle.std.specs.Prelude.{◌≡◌, ℕ, ◌+◌, ◌≤◌, Bool, false, ◌&&◌, ◌||◌, not, List, [], ◌∷◌, ◌++◌, length, IsTrue, IsFalse, ◌==◌, ◌⊎◌}
 use Rattle.std.specs.List.{list_all, flat_map}
 use Rattle.lua_lexer.specs.declared.token.Token.{Token}
 use Rattle.lua_lexer.specs.declared.token.TokenKind.{TokenKind}
 use Rattle.lua_lexer.specs.declared.token.TokenKind.TheVariants as kinds
-use Rattle.lua_lexer.specs.declared.vocabulary.Keyword.{Keyword}
 use Rattle.lua_lexer.specs.declared.vocabulary.Symbol.{Symbol}
 use Rattle.lua_lexer.specs.declared.vocabulary.Symbol.TheVariants as symbols
-use Rattle.lua_lexer.specs.Alphabet.{is_space, is_line_break, is_digit, is_name_start, is_name_byte, is_numeral_byte, is_hexadecimal, value, begins_with}
-use Rattle.lua_lexer.specs.Vocabulary.{keyword_bytes, symbol_bytes}
+use Rattle.lua_names.specs.Keywords.{keyword_bytes}
+use Rattle.lua_names.specs.Names.{is_digit, is_name}
+use Rattle.lua_lexer.specs.Alphabet.{is_space, is_line_break, is_numeral_byte, is_hexadecimal, value, begins_with}
+use Rattle.lua_lexer.specs.Vocabulary.{symbol_bytes}
 use Rattle.lua_lexer.specs.QuotedText.{IsQuoted, ends_line}
 use Rattle.lua_lexer.specs.LongBracket.{long_text, IsBracket, Opens}
 use Rattle.lua_lexer.specs.Turns.{InTurn}
 
--- ---- words and numerals
-
--- letters, digits and `_`, not beginning with a digit
-abbrev pub IsWord : List ℕ → Type 0
-IsWord bytes = IsTrue (begins_with is_name_start bytes) × IsTrue (list_all is_name_byte bytes)
+-- ---- numerals
 
 -- begins with a digit, or with `.` and a digit
 abbrev pub begins_numeral : List ℕ → Bool
@@ -51,7 +48,7 @@ StandsBefore _ after = Unit {0}
 
 -- these bytes before what comes after them spell this token
 abbrev pub SpellsToken : TokenKind → List ℕ → List ℕ → Type 0
-SpellsToken (kinds.Name name) bytes after = (bytes ≡ name) × IsWord bytes × ((k : Keyword) → bytes ≢ keyword_bytes k)
+SpellsToken (kinds.Name name) bytes after = (bytes ≡ name) × IsTrue (is_name bytes)
 SpellsToken (kinds.Keyword keyword) bytes after = bytes ≡ keyword_bytes keyword
 SpellsToken (kinds.Symbol symbol) bytes after = (bytes ≡ symbol_bytes symbol) × StandsBefore symbol after
 SpellsToken (kinds.Text text) bytes after = IsQuoted text bytes ⊎ ((body : List ℕ) × (text ≡ long_text body) × IsBracket body bytes after)

@@ -1,33 +1,7 @@
--- How keywords and symbols are spelled (Lua 5.4 manual, section 3.1).
+-- How symbols are spelled (Lua 5.4 manual, section 3.1).
 use Rattle.std.specs.Prelude.{ℕ, List, codes}
-use Rattle.lua_lexer.specs.declared.vocabulary.Keyword.{Keyword}
-use Rattle.lua_lexer.specs.declared.vocabulary.Keyword.TheVariants.{And, Break, Do, Else, Elseif, End, False, For, Function, Goto, If, In, Local, Nil, Not, Or, Repeat, Return, Then, True, Until, While}
 use Rattle.lua_lexer.specs.declared.vocabulary.Symbol.{Symbol}
 use Rattle.lua_lexer.specs.declared.vocabulary.Symbol.TheVariants.{Plus, Minus, Star, Slash, Percent, Caret, Hash, Amp, Tilde, Bar, ShiftLeft, ShiftRight, DoubleSlash, Equal, NotEqual, LessEqual, GreaterEqual, Less, Greater, Assign, OpenParen, CloseParen, OpenBrace, CloseBrace, OpenBracket, CloseBracket, DoubleColon, Semicolon, Colon, Comma, Dot, Concat, Dots}
-
-abbrev pub keyword_bytes : Keyword → List ℕ
-keyword_bytes And = codes "and"
-keyword_bytes Break = codes "break"
-keyword_bytes Do = codes "do"
-keyword_bytes Else = codes "else"
-keyword_bytes Elseif = codes "elseif"
-keyword_bytes End = codes "end"
-keyword_bytes False = codes "false"
-keyword_bytes For = codes "for"
-keyword_bytes Function = codes "function"
-keyword_bytes Goto = codes "goto"
-keyword_bytes If = codes "if"
-keyword_bytes In = codes "in"
-keyword_bytes Local = codes "local"
-keyword_bytes Nil = codes "nil"
-keyword_bytes Not = codes "not"
-keyword_bytes Or = codes "or"
-keyword_bytes Repeat = codes "repeat"
-keyword_bytes Return = codes "return"
-keyword_bytes Then = codes "then"
-keyword_bytes True = codes "true"
-keyword_bytes Until = codes "until"
-keyword_bytes While = codes "while"
 
 abbrev pub symbol_bytes : Symbol → List ℕ
 symbol_bytes Plus = codes "+"

@@ -1,7 +1,10 @@
 ghost use Rattle.std.specs.Prelude.{◌≡◌};
 ghost use Rattle.std.specs.List.{list_all};
-ghost use Rattle.lua_lexer.specs.Alphabet.{is_space, is_line_break, is_digit, is_name_start, is_name_byte, is_numeral_byte, is_hexadecimal, is_quote, digit_of};
+ghost use Rattle.lua_names.specs.Names.{is_digit, is_name_start, is_name_byte};
+ghost use Rattle.lua_lexer.specs.Alphabet.{is_space, is_line_break, is_numeral_byte, is_hexadecimal, is_quote, digit_of};
 ghost use Rattle.lua_lexer.specs.Reading.{holds, run, after_run};
+
+use lua_names::is_name_byte;
 
 /// Sorts of bytes that tokens and the gaps between them consist of.
 #[derive(Clone, Copy, Debug, PartialEq, Eq)]
@@ -37,12 +40,6 @@ pub fn is_digit(byte: u8) -> bool
     byte >= b'0' && byte <= b'9'
 }
 
-pub fn is_name_start(byte: u8) -> bool
-    ensures { result ≡ is_name_start byte }
-{
-    byte >= b'A' && byte <= b'Z' || byte >= b'a' && byte <= b'z' || byte == b'_'
-}
-
 pub fn is_quote(byte: u8) -> bool
     ensures { result ≡ is_quote byte }
 {
@@ -72,8 +69,8 @@ impl Class {
             Class::Space => is_space(byte),
             Class::Digit => is_digit(byte),
             Class::Hexadecimal => digit_of(byte).is_some(),
-            Class::Name => is_name_start(byte) || is_digit(byte),
-            Class::Numeral => is_name_start(byte) || is_digit(byte) || byte == b'.',
+            Class::Name => is_name_byte(byte),
+            Class::Numeral => is_name_byte(byte) || byte == b'.',
             Class::Equals => byte == b'=',
             Class::Line => !is_line_break(byte),
         }

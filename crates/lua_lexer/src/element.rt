@@ -2,12 +2,13 @@ ghost use Rattle.std.specs.Prelude.{◌≡◌};
 ghost use Rattle.lua_lexer.specs.Reading.{Gives, lexeme_of, element_at};
 
 use crate::bracket::{bracket, comment};
-use crate::class::{is_digit, is_name_start, is_quote, is_space};
+use crate::class::{is_digit, is_quote, is_space};
 use crate::numeral::numeral;
 use crate::quoted::quoted;
 use crate::stop::{Cause, Stop};
 use crate::token::TokenKind;
 use crate::word::{symbol, word};
+use lua_names::is_name_start;
 use rocks_bytes::Bytes;
 use std::alloc::Global;
 

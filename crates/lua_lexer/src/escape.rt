@@ -1,5 +1,6 @@
 ghost use Rattle.std.specs.Prelude.{◌≡◌, ◌<◌, ◌^◌, ◌++◌, OnOk, IsTrue};
-ghost use Rattle.lua_lexer.specs.Alphabet.{begins_with, is_digit};
+ghost use Rattle.lua_names.specs.Names.{is_digit};
+ghost use Rattle.lua_lexer.specs.Alphabet.{begins_with};
 ghost use Rattle.lua_lexer.specs.QuotedText.{letter_value, continuation, utf8};
 ghost use Rattle.lua_lexer.specs.Reading.{Meets, IsMeaning, meaning_bytes, hexadecimal_at, decimal_at, code_end, code_at, unicode_at, escape_at};
 

@@ -4,6 +4,7 @@ ghost use Rattle.lua_lexer.specs.declared.token.Token.{Token};
 ghost use Rattle.lua_lexer.specs.Faults.{HasFault};
 ghost use Rattle.lua_lexer.specs.Reading.{Gives, tokens_at, fault_of, LiesWithin};
 ghost use Rattle.lua_lexer.specs.Spelling.{Spells};
+ghost use Rattle.lua_lexer.specs.TokenLists.{IsTokenList};
 
 use crate::element::element;
 use crate::fault::LexFault;
@@ -66,6 +67,8 @@ fn fault(length: usize, stop: Stop) -> LexFault
 pub fn tokens(alloc: Global, text: &[u8]) -> Result<TokenList, LexFault>
     // What is answered, the text spells.
     ensures ok { IfOk result (λ found. Spells text.now found) }
+    // Names are no keywords, and texts, integers and places are in range.
+    ensures promised { IfOk result (λ found. IsTokenList found) }
     // What the text spells, is answered, unless memory runs out.
     ensures only { (tokens : List Token) → Spells text.now tokens
         → MatchResult result (λ found. found ≡ tokens) (λ fault. fault ≡ LexFault.NoMemory) }

@@ -17,8 +17,6 @@ mod word;
 
 pub use fault::LexFault;
 pub use lexer::tokens;
+pub use lua_names::Keyword;
 pub use token::{Token, TokenKind, TokenList};
-pub use vocabulary::{Keyword, Symbol};
-
-#[cfg(test)]
-mod tests;
+pub use vocabulary::Symbol;

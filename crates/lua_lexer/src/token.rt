@@ -1,6 +1,7 @@
 ghost use Rattle.std.specs.Prelude.{◌≡◌, IfOk};
 
-use crate::vocabulary::{Keyword, Symbol};
+use crate::vocabulary::Symbol;
+use lua_names::Keyword;
 use rocks_bytes::Bytes;
 use sqlite_items::Items;
 use std::alloc::{AllocError, Global};
@@ -58,7 +59,8 @@ impl Token {
     }
 }
 
-/// The tokens of a text in order, the last of them `End`. Contracts see it as the list of its tokens.
+/// The tokens of a text in order, the last of them `End`: names are no keywords, texts have bytes, integers are
+/// below 2 to the 63rd, and no place is above 8,388,608. Contracts see it as the list of its tokens.
 #[derive(Debug, Drop)]
 pub struct TokenList {
     items: Items<Token>,
@@ -67,22 +69,22 @@ pub struct TokenList {
 impl Model for TokenList {
     ghost use Rattle.std.specs.Prelude.{List};
     ghost use Rattle.lua_lexer.specs.declared.token.Token.{Token};
-    ghost use Rattle.lua_lexer.specs.TokenLists.{EndsOnce};
+    ghost use Rattle.lua_lexer.specs.TokenLists.{IsTokenList};
 
     ghost Value = { List Token };
 
     ghost view = { λ list. list.items };
 
-    ghost invariant = { λ list. EndsOnce list.items };
+    ghost invariant = { λ list. IsTokenList list.items };
 }
 
 impl TokenList {
-    ghost use Rattle.lua_lexer.specs.TokenLists.{EndsOnce};
+    ghost use Rattle.lua_lexer.specs.TokenLists.{IsTokenList};
 
     /// The tokens in order.
     pub fn as_slice(&self) -> &[Token]
         ensures tokens { result.now ≡ self.now }
-        ensures ended { EndsOnce self.now }
+        ensures promised { IsTokenList self.now }
     {
         self.items.as_slice()
     }
@@ -99,7 +101,7 @@ impl TokenList {
     }
 
     pub(crate) fn from_vec(tokens: Vec<Token>) -> TokenList
-        requires { EndsOnce tokens.items }
+        requires { IsTokenList tokens.items }
         ensures { result ≡ tokens.items }
     {
         TokenList {

@@ -1,43 +1,13 @@
 ghost use Rattle.std.specs.Prelude.{◌≡◌, IfOk};
-ghost use Rattle.lua_lexer.specs.Reading.{keyword_of, word_at, symbol_at, dots_at, pair_of, pair_at, single_of, single_at};
+ghost use Rattle.lua_lexer.specs.Reading.{word_at, symbol_at, dots_at, pair_of, pair_at, single_of, single_at};
 ghost use Rattle.std.specs.Option.{option_map};
 
 use crate::class::Class;
 use crate::token::TokenKind;
-use crate::vocabulary::{Keyword, Symbol};
+use crate::vocabulary::Symbol;
+use lua_names::keyword_of;
 use rocks_bytes::Bytes;
 use std::alloc::{AllocError, Global};
-
-#[tactic(auto, unfolding(crate::specs::Reading::keyword_of))]
-fn keyword_of(word: &[u8]) -> Option<Keyword>
-    ensures { result ≡ keyword_of word.now }
-{
-    match word {
-        b"and" => Some(Keyword::And),
-        b"break" => Some(Keyword::Break),
-        b"do" => Some(Keyword::Do),
-        b"else" => Some(Keyword::Else),
-        b"elseif" => Some(Keyword::Elseif),
-        b"end" => Some(Keyword::End),
-        b"false" => Some(Keyword::False),
-        b"for" => Some(Keyword::For),
-        b"function" => Some(Keyword::Function),
-        b"goto" => Some(Keyword::Goto),
-        b"if" => Some(Keyword::If),
-        b"in" => Some(Keyword::In),
-        b"local" => Some(Keyword::Local),
-        b"nil" => Some(Keyword::Nil),
-        b"not" => Some(Keyword::Not),
-        b"or" => Some(Keyword::Or),
-        b"repeat" => Some(Keyword::Repeat),
-        b"return" => Some(Keyword::Return),
-        b"then" => Some(Keyword::Then),
-        b"true" => Some(Keyword::True),
-        b"until" => Some(Keyword::Until),
-        b"while" => Some(Keyword::While),
-        _ => None,
-    }
-}
 
 /// The name or keyword at the front of the bytes, and the bytes after it.
 #[tactic(auto, unfolding(crate::specs::Reading::word_at))]

@@ -11,7 +11,8 @@ use Rattle.std.proofs.lemmas.Cmp.{ranked}
 use Rattle.std.proofs.lemmas.List.{take_all}
 use Rattle.std.proofs.lemmas.Map.Keys.{sorted_head, sorted_tail}
 use Rattle.std.proofs.lemmas.Slice.Eq.{starts_is}
-use Rattle.rocks_text.specs.Files.{IsFolderOf, path_cmp}
+use Rattle.rocks_text.specs.Files.{path_cmp}
+use Rattle.rocks_text.specs.Paths.{IsFolderOf}
 use Rattle.rocks_folders.specs.Listings.{HasNoneBelow}
 
 -- where both ways round the first bytes leave a path less, they are the same byte

@@ -1,7 +1,7 @@
 -- What the names that a folder of a disk has must be, to be answered as a listing.
 use Rattle.std.specs.Prelude.{ℕ, List, ◌∷◌, ◌++◌, IsTrue}
 use Rattle.std.specs.List.{AllByRecursion}
-use Rattle.rocks_text.specs.Files.{IsFolderOf}
+use Rattle.rocks_text.specs.Paths.{IsFolderOf}
 use Rattle.rocks_text.specs.Texts.{is_file_path, is_tree_path}
 use Rattle.rocks_outside.specs.Device.{IsAscending}
 

@@ -1,8 +1,8 @@
-ghost use Rattle.std.specs.Prelude.{◌≡◌, ◌≤◌, [], IsErrOf};
-ghost use Rattle.rocks_outside.specs.Counts.{HasRisen};
-ghost use Rattle.rocks_outside.specs.Device.{IsCounted, Ticks};
+ghost use Rattle.std.specs.Prelude.{◌≡◌, [], None};
+ghost use Rattle.rocks_outside.specs.Device.{CountsFaults, IsCounted, Ticks};
 
 use crate::folder_tree::FolderTree;
+use rocks_bytes::Text;
 use rocks_outside::{Device, DeviceError};
 use rocks_text::TreePath;
 use std::alloc::Global;
@@ -26,7 +26,7 @@ struct DeviceCounts {
 
 impl<R: Files + AllocGlobal + Print + Copy + Clone + Drop> FolderDevice<R> {
     /// A tree in this folder.
-    pub fn new(rt: R, root: String) -> FolderDevice<R>
+    pub fn new(rt: R, root: Text) -> FolderDevice<R>
         ensures root { result.tree.root ≡ root }
         ensures counts { (result.counts.clock ≡ 0) × (result.counts.looks ≡ 0) × (result.counts.faults ≡ 0) }
         ensures unsynced { result.tree.unsynced.paths.items ≡ [] }
@@ -48,8 +48,7 @@ impl DeviceCounts {
     fn looked<T>(&mut self, answer: &Result<T, DeviceError>)
         ensures looks { IsCounted answer.now self.old.looks self.new.looks }
         ensures clock { self.new.clock ≡ self.old.clock }
-        ensures faults { self.old.faults ≤ self.new.faults }
-        ensures cause { IsErrOf answer.now DeviceError.Failed → HasRisen self.old.faults self.new.faults }
+        ensures faults { CountsFaults answer.now self.old.faults self.new.faults }
     {
         match answer {
             Ok(_) => self.looks = self.looks.saturating_add(1),
@@ -65,8 +64,7 @@ impl DeviceCounts {
     fn ticked<T>(&mut self, answer: &Result<T, DeviceError>)
         ensures clock { Ticks answer.now None self.old.clock self.new.clock }
         ensures looks { self.new.looks ≡ self.old.looks }
-        ensures faults { self.old.faults ≤ self.new.faults }
-        ensures cause { IsErrOf answer.now DeviceError.Failed → HasRisen self.old.faults self.new.faults }
+        ensures faults { CountsFaults answer.now self.old.faults self.new.faults }
     {
         match answer {
             Ok(_) => self.clock = self.clock.saturating_add(1),
@@ -82,15 +80,15 @@ impl DeviceCounts {
 impl<R: Files + AllocGlobal + Print + Clone + Drop> Device for FolderDevice<R> {
     ghost use Rattle.std.specs.Prelude.{None};
 
-    ghost files = { λ _. None };
+    ghost state = { λ d. record {
+      files = None;
+      said = None;
+      clock = d.counts.clock;
+      looks = d.counts.looks;
+      faults = d.counts.faults;
+    } };
 
-    ghost said = { λ _. None };
-
-    ghost clock = { λ d. d.counts.clock };
-
-    ghost looks = { λ d. d.counts.looks };
-
-    ghost faults = { λ d. d.counts.faults };
+    ghost tells = { λ _ _. record { files = tt; said = tt } };
 
     fn read(&mut self, _alloc: Global, path: &TreePath) -> Result<Option<Vec<u8>>, DeviceError> {
         let answer = self.tree.read(path);

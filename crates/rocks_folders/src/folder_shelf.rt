@@ -1,13 +1,14 @@
-ghost use Rattle.std.specs.Prelude.{◌≡◌, ◌≤◌, ◌<◌, ◌^◌, ◌-◌, Some, IfOk, IfSome, IsErrOf, min, length, slice_get, string_bytes};
-ghost use Rattle.rocks_outside.specs.Counts.{HasRisen};
-ghost use Rattle.rocks_outside.specs.Shelf.{IsRead, IsWithin, IsFolderListing};
+ghost use Rattle.std.specs.Prelude.{◌≡◌, ◌<◌, Some, IfOk, length, slice_get};
+ghost use Rattle.rocks_outside.specs.Shelf.{CountsFaults, IsRead, IsWithin, IsFolderListing};
 
 use crate::disk::Stands;
 use crate::known_folders::KnownFolders;
 use crate::listing::paths_below;
 use crate::{disk, place};
+use rocks_bytes::{Bytes, Text};
 use rocks_outside::{Shelf, ShelfError, ShelfRead};
 use rocks_text::FilePath;
+use sqlite_items::Items;
 use std::alloc::Global;
 use std::rt::Files;
 
@@ -17,14 +18,14 @@ use std::rt::Files;
 #[derive(Drop)]
 pub struct FolderShelf<R: Files + AllocGlobal + Clone + Drop> {
     rt: R,
-    roots: Vec<String>,
+    roots: Items<Text>,
     known: KnownFolders,
     faults: u64,
 }
 
 impl<R: Files + AllocGlobal + Clone + Drop> FolderShelf<R> {
     /// Servers in these folders, in this order.
-    pub fn new(rt: R, roots: Vec<String>) -> FolderShelf<R>
+    pub fn new(rt: R, roots: Items<Text>) -> FolderShelf<R>
         ensures roots { result.roots ≡ roots }
         ensures faults { result.faults ≡ 0 }
     {
@@ -38,9 +39,8 @@ impl<R: Files + AllocGlobal + Clone + Drop> FolderShelf<R> {
     }
 
     fn count<T>(&mut self, answer: &Result<T, ShelfError>)
-        ensures roots { self.new.roots.items ≡ self.old.roots.items }
-        ensures faults { self.old.faults ≤ self.new.faults }
-        ensures cause { IsErrOf answer.now ShelfError.Failed → HasRisen self.old.faults self.new.faults }
+        ensures roots { self.new.roots ≡ self.old.roots }
+        ensures faults { CountsFaults answer.now self.old.faults self.new.faults }
     {
         if let Err(ShelfError::Failed) = answer {
             self.faults = self.faults.saturating_add(1);
@@ -51,14 +51,14 @@ impl<R: Files + AllocGlobal + Clone + Drop> FolderShelf<R> {
 impl<R: Files + AllocGlobal + Clone + Drop> Shelf for FolderShelf<R> {
     ghost use Rattle.std.specs.Prelude.{None, min, length, ◌^◌, ◌-◌};
 
-    ghost holds = { λ _. None };
-
-    ghost server_count = { λ s. min (length s.roots.items) (2 ^ 32 - 1) };
-
-    ghost faults = { λ s. s.faults };
+    ghost state = { λ s. record {
+      holds = None;
+      servers = min (length s.roots) (2 ^ 32 - 1);
+      faults = s.faults;
+    } };
 
     fn servers(&self) -> u32 {
-        self.roots.len().min(0xffff_ffff) as u32
+        self.roots.as_slice().len().min(0xffff_ffff) as u32
     }
 
     fn read(
@@ -68,7 +68,7 @@ impl<R: Files + AllocGlobal + Clone + Drop> Shelf for FolderShelf<R> {
         path: &FilePath,
         limit: u32,
     ) -> Result<ShelfRead, ShelfError> {
-        let root = root_of(&self.roots, server);
+        let root = root_of(self.roots.as_slice(), server);
         let answer = read_file(&self.rt, &mut self.known, root, path.as_str(), limit);
         self.count(&answer);
         answer
@@ -80,7 +80,7 @@ impl<R: Files + AllocGlobal + Clone + Drop> Shelf for FolderShelf<R> {
         server: u32,
         folder: &FilePath,
     ) -> Result<Vec<FilePath>, ShelfError> {
-        let root = root_of(&self.roots, server);
+        let root = root_of(self.roots.as_slice(), server);
         let answer = list_files(alloc, &self.rt, &mut self.known, root, folder);
         self.count(&answer);
         answer
@@ -88,9 +88,9 @@ impl<R: Files + AllocGlobal + Clone + Drop> Shelf for FolderShelf<R> {
 }
 
 // The folder of a server.
-fn root_of(roots: &[String], server: u32) -> &str
+fn root_of(roots: &[Text], server: u32) -> &str
     requires { server < length roots.now }
-    ensures { IfSome (slice_get roots.now server) (λ root. result.now ≡ string_bytes root) }
+    ensures { slice_get roots.now server ≡ Some result.now }
 {
     roots[server as usize].as_str()
 }
@@ -122,7 +122,7 @@ fn limited(bytes: Vec<u8>, limit: u32) -> ShelfRead
     if bytes.len() > limit as usize {
         return ShelfRead::TooLong;
     }
-    ShelfRead::Bytes(bytes)
+    ShelfRead::Bytes(Bytes::from(bytes))
 }
 
 fn list_files<R: Files + AllocGlobal + Clone + Drop>(

@@ -8,6 +8,7 @@ use crate::known_folders::KnownFolders;
 use crate::listing::paths_from;
 use crate::unsynced::Unsynced;
 use crate::{disk, place};
+use rocks_bytes::Text;
 use rocks_outside::DeviceError;
 use rocks_text::TreePath;
 use std::alloc::Global;
@@ -21,14 +22,14 @@ use std::rt::Files;
 #[derive(Drop)]
 pub(crate) struct FolderTree<R: Files + AllocGlobal + Clone + Drop> {
     rt: R,
-    root: String,
+    root: Text,
     known: KnownFolders,
     unsynced: Unsynced,
 }
 
 impl<R: Files + AllocGlobal + Clone + Drop> FolderTree<R> {
     /// The tree in this folder.
-    pub(crate) fn new(rt: R, root: String) -> FolderTree<R>
+    pub(crate) fn new(rt: R, root: Text) -> FolderTree<R>
         ensures root { result.root ≡ root }
         ensures unsynced { result.unsynced.paths.items ≡ [] }
     {

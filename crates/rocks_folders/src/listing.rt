@@ -3,7 +3,8 @@ ghost use Rattle.std.specs.Prelude.{◌≡◌, ◌↔◌, ◌++◌, ◌∷◌, I
 ghost use Rattle.std.specs.List.{AllByRecursion, filter, starts_with};
 ghost use Rattle.std.specs.Bool.{nat_eq};
 ghost use Rattle.std.specs.List.Sorted.{IsStrictlySortedBy};
-ghost use Rattle.rocks_text.specs.Files.{IsFolderOf, path_cmp};
+ghost use Rattle.rocks_text.specs.Files.{path_cmp};
+ghost use Rattle.rocks_text.specs.Paths.{IsFolderOf};
 ghost use Rattle.rocks_text.specs.Texts.{is_file_path, is_tree_path};
 ghost use Rattle.rocks_folders.specs.Listings.{HasNoneBelow, IsPathBelow, IsTreeOfNames, IsFolderOfNames};
 ghost use Rattle.rocks_outside.specs.Device.{IsAscending, IsListing};

@@ -8,10 +8,10 @@ use Rattle.std.specs.Map.{lookup, keys_of}
 use Rattle.std.specs.List.{list_any}
 use Rattle.std.specs.Ordering.{eq_by_cmp}
 use Rattle.std.specs.FinMap.{empty, get, insert, get-empty, get-insert}
-use Rattle.rocks_text.specs.Files.{Files, path_cmp, IsFolderOf, HasNoFileAsFolder}
+use Rattle.rocks_text.specs.Files.{Files, path_cmp, HasNoFileAsFolder}
+use Rattle.rocks_text.specs.Paths.{below, IsFolderOf}
+use Rattle.rocks_text.proofs.Below.{below_is, below_some}
 use Rattle.rocks_outside.specs.Held.{files_of, is_in_the_way, Clashes}
-use Rattle.rocks_outside.specs.Shelf.{below}
-use Rattle.rocks_outside.proofs.Below.{below_is, below_some}
 use Rattle.rocks_outside.proofs.Held.{total, same_path, get-files_of}
 
 or_left : (a b : Bool) → a ≡ true → (a || b) ≡ true

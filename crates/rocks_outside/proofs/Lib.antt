@@ -1,3 +1,3 @@
-pub mod Below
 pub mod Clashing
 pub mod Held
+pub mod Listings

@@ -1,13 +1,25 @@
--- What the calls of a shelf answer. A shelf is a list of servers, each a map from paths to bytes.
-use Rattle.std.specs.Prelude.{ℕ, ◌≡◌, ◌+◌, ◌<◌, ◌≤◌, IsTrue, List, [], ◌∷◌, ◌++◌, length, drop, if◌then◌else◌, Option, None, Some, slice_get}
-use Rattle.std.specs.List.{filter_map, starts_with, AllByRecursion, Contains}
-use Rattle.std.specs.Bool.{nat_eq}
+-- What a shelf is, to contracts, and what its calls answer. A shelf is a list of servers, each a map from paths to bytes.
+use Rattle.std.specs.Prelude.{ℕ, ◌≡◌, ◌<◌, ◌≤◌, IsTrue, List, [], length, Option, None, Some, IfSome, Result, Ok, Err, slice_get}
+use Rattle.std.specs.List.{filter_map, AllByRecursion, Contains}
 use Rattle.std.specs.FinMap.{get, keys}
-use Rattle.rocks_text.specs.Files.{Files, IsFolderOf}
+use Rattle.rocks_text.specs.Files.{Files, HasNoFileAsFolder}
+use Rattle.rocks_text.specs.Paths.{joined, below, IsFolderOf}
 use Rattle.rocks_text.specs.Texts.{is_file_path}
+use Rattle.rocks_outside.specs.Counts.{HasRisen}
 use Rattle.rocks_outside.specs.Device.{IsAscending}
+use Rattle.rocks_outside.specs.declared.shelf.ShelfError.{ShelfError}
+use Rattle.rocks_outside.specs.declared.shelf.ShelfError.TheVariants.{Failed, NoMemory}
 use Rattle.rocks_outside.specs.declared.shelf.ShelfRead.{ShelfRead}
 use Rattle.rocks_outside.specs.declared.shelf.ShelfRead.TheVariants.{Absent, TooLong, Bytes}
+
+-- A shelf at one moment.
+pub record ShelfState : Type 0 where
+  -- the files of each server, or none where the shelf doesn't tell them
+  pub holds : Option (List Files)
+  -- how many servers there are
+  pub servers : ℕ
+  -- how often the shelf has failed
+  pub faults : ℕ
 
 -- what a server holds at a path
 abbrev pub held_at : List Files → (server : ℕ) → (path : List ℕ) → Option (List ℕ)
@@ -21,17 +33,13 @@ held_at servers server path = held (slice_get servers server)
 abbrev pub IsRead : (limit : ℕ) → Option (List ℕ) → ShelfRead → Type 0
 IsRead limit held Absent = held ≡ None
 IsRead limit held TooLong = (bytes : List ℕ) × (held ≡ Some bytes) × (limit < length bytes)
-IsRead limit held (Bytes bytes) = (held ≡ Some bytes.items) × (length bytes.items ≤ limit)
+IsRead limit held (Bytes bytes) = (held ≡ Some bytes) × (length bytes ≤ limit)
 
 -- also where a shelf doesn't tell what it holds
 abbrev pub IsWithin : (limit : ℕ) → ShelfRead → Type 0
 IsWithin limit Absent = Unit {0}
 IsWithin limit TooLong = Unit {0}
-IsWithin limit (Bytes bytes) = length bytes.items ≤ limit
-
--- the path from a folder on, for a path below it
-abbrev pub below : (folder path : List ℕ) → Option (List ℕ)
-below folder path = if starts_with nat_eq path (folder ++ 47 ∷ []) then Some (drop (length folder + 1) path) else None
+IsWithin limit (Bytes bytes) = length bytes ≤ limit
 
 -- the paths below a folder of some files, relative to it, in byte order
 abbrev pub paths_below : (folder : List ℕ) → Files → List (List ℕ)
@@ -48,5 +56,22 @@ held_below servers server folder = listed (slice_get servers server)
 -- what each listing is, also where a shelf doesn't tell what it holds
 pub record IsFolderListing (folder : List ℕ) (paths : List (List ℕ)) : Type 0 where
   pub ascending : IsAscending paths
-  pub are_paths : AllByRecursion (λ path. IsTrue (is_file_path (folder ++ 47 ∷ path))) paths
+  pub are_paths : AllByRecursion (λ path. IsTrue (is_file_path (joined folder path))) paths
   pub apart : (path other : List ℕ) → Contains paths path → Contains paths other → IsFolderOf path other → ⊥
+
+-- The count of faults rises where the call failed, and stands still otherwise.
+abbrev pub CountsFaults : {T : Type 0} → Result T ShelfError → ℕ → ℕ → Type 0
+CountsFaults (Ok done) before now = now ≡ before
+CountsFaults (Err Failed) before now = (before ≤ now) × HasRisen before now
+CountsFaults (Err NoMemory) before now = now ≡ before
+
+-- Each call leaves what the servers hold and how many they are.
+pub record AsksOnly {T : Type 0} (result : Result T ShelfError) (before now : ShelfState) : Type 0 where
+  pub holds : now.holds ≡ before.holds
+  pub servers : now.servers ≡ before.servers
+  pub faults : CountsFaults result before.faults now.faults
+
+-- a shelf that tells what it holds tells it of each server, and no path of a file is that of a folder of another
+pub record IsShelf (shelf : ShelfState) : Type 0 where
+  pub each : IfSome shelf.holds (λ servers. length servers ≡ shelf.servers)
+  pub apart : IfSome shelf.holds (AllByRecursion HasNoFileAsFolder)

@@ -9,8 +9,6 @@ mod memory_shelf;
 mod memory_source;
 mod shelf;
 mod source;
-#[cfg(test)]
-mod tests;
 
 pub use device::{Device, DeviceError};
 pub use memory_device::MemoryDevice;

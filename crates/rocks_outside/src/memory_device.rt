@@ -1,8 +1,8 @@
-ghost use Rattle.std.specs.Prelude.{◌≡◌, [], length, IfOk, OnOk, OnErr};
+ghost use Rattle.std.specs.Prelude.{◌≡◌, IfOk, OnOk, OnErr};
 ghost use Rattle.std.specs.Option.{option_map};
-ghost use Rattle.std.specs.FinMap.{empty, get, insert, remove};
-ghost use Rattle.rocks_outside.specs.Held.{files_of};
+ghost use Rattle.std.specs.FinMap.{get, insert, remove};
 ghost use Rattle.rocks_outside.specs.Device.{paths_from, renamed, IsListing};
+ghost use Rattle.rocks_outside.specs.Held.{files_of};
 
 use crate::copying::copied;
 use crate::{Device, DeviceError};
@@ -39,15 +39,13 @@ pub struct MemoryDevice {
 }
 
 impl MemoryDevice {
-    ghost use Rattle.rocks_outside.specs.Memory.{device_files, device_said, device_clock};
+    ghost use Rattle.rocks_outside.specs.Memory.{device_state, new_device};
 
     /// A device with no files, which has said nothing and counted nothing.
     ///
     /// The only error is want of memory, and today there is none: an empty device takes no memory.
     pub fn new(alloc: Global) -> Result<MemoryDevice, AllocError>
-        ensures files { IfOk result (λ device. device_files device ≡ empty) }
-        ensures said { IfOk result (λ device. device_said device ≡ []) }
-        ensures clock { IfOk result (λ device. device_clock device ≡ 0) }
+        ensures { IfOk result (λ device. device_state device ≡ new_device) }
     {
         Ok(MemoryDevice {
             alloc,
@@ -60,14 +58,14 @@ impl MemoryDevice {
 
     /// All bytes said so far, in order.
     pub fn said(&self) -> &[u8]
-        ensures { result.now ≡ device_said self.now }
+        ensures { (device_state self.now).said ≡ Some result.now }
     {
         &self.said
     }
 
     /// How many calls of `write`, `rename`, `remove`, `sync` and `say` were done.
     pub fn clock(&self) -> u64
-        ensures { result ≡ device_clock self.now }
+        ensures { result ≡ (device_state self.now).clock }
     {
         self.calls.len() as u64
     }
@@ -76,18 +74,11 @@ impl MemoryDevice {
 /// It tells all: its files, what it has said, and a clock that rises by one at each call that is counted. It never
 /// answers `Failed`.
 impl Device for MemoryDevice {
-    ghost use Rattle.std.specs.Prelude.{Some, length};
-    ghost use Rattle.rocks_outside.specs.Held.{files_of};
+    ghost use Rattle.rocks_outside.specs.Memory.{device_state};
 
-    ghost files = { λ device. Some (files_of device.files) };
+    ghost state = { device_state };
 
-    ghost said = { λ device. Some device.said.items };
-
-    ghost clock = { λ device. length device.calls.items };
-
-    ghost looks = { λ device. device.looks };
-
-    ghost faults = { λ _. 0 };
+    ghost tells = { λ _ _. record { files = tt; said = tt } };
 
     fn read(&mut self, alloc: Global, path: &TreePath) -> Result<Option<Vec<u8>>, DeviceError> {
         let found = bytes_at(alloc, &self.files, path)?;
@@ -143,7 +134,8 @@ impl Device for MemoryDevice {
 }
 
 fn bytes_at(alloc: Global, files: &Held, path: &TreePath) -> Result<Option<Vec<u8>>, AllocError>
-    ensures { IfOk result (λ found. option_map (λ bytes. bytes.items) found ≡ get (files_of files.now) path.now) }
+    ensures { IfOk result
+        (λ found. option_map (λ bytes. bytes.items) found ≡ get (files_of files.now) path.now) }
 {
     match files.get(path) {
         Some(bytes) => Ok(Some(Vec::from_slice(alloc, bytes.as_slice())?)),

@@ -1,17 +1,16 @@
-ghost use Rattle.std.specs.Prelude.{◌≡◌, ◌<◌, ◌^◌, ◌↔◌, ℕ, false, length, replicate, IsTrue, IfOk, OnErr, if◌then◌else◌, slice_index_or, slice_set};
-ghost use Rattle.std.specs.Option.{option_map};
+ghost use Rattle.std.specs.Prelude.{◌≡◌, ◌<◌, ◌^◌, ◌↔◌, ℕ, false, length, replicate};
+ghost use Rattle.std.specs.Prelude.{IsTrue, IfOk, OnErr, if◌then◌else◌, slice_index_or};
 ghost use Rattle.std.specs.List.{list_any};
 ghost use Rattle.std.specs.BTreeMap.{keys};
 ghost use Rattle.std.specs.FinMap.{empty, get, insert};
 ghost use Rattle.rocks_text.specs.Files.{Files, HasNoFileAsFolder};
-ghost use Rattle.rocks_text.specs.Texts.{is_file_path};
-ghost use Rattle.rocks_outside.specs.Held.{files_of, is_in_the_way, Clashes};
-ghost use Rattle.rocks_outside.specs.Shelf.{below, paths_below, IsRead, IsWithin, IsFolderListing};
+ghost use Rattle.rocks_outside.specs.Held.{files_of, is_in_the_way, Clashes, with_file};
+ghost use Rattle.rocks_outside.specs.Shelf.{paths_below, IsRead, IsWithin, IsFolderListing};
 
 use crate::copying::copied;
 use crate::{Shelf, ShelfError, ShelfRead};
 use rocks_bytes::Bytes;
-use rocks_text::{FilePath, TextFault};
+use rocks_text::FilePath;
 use std::alloc::{AllocError, Global};
 use std::collections::BTreeMap;
 use std::marker::Model;
@@ -49,7 +48,8 @@ impl Server {
 
     fn put(&mut self, alloc: Global, path: &FilePath, bytes: &[u8]) -> Result<bool, AllocError>
         ensures refused { IfOk result (λ taken. (taken ≡ false) ↔ Clashes path.now self.old) }
-        ensures put { IfOk result (λ taken. self.new ≡ (if taken then insert self.old path.now bytes.now else self.old)) }
+        ensures put { IfOk result (λ taken. self.new
+            ≡ (if taken then insert self.old path.now bytes.now else self.old)) }
         ensures err { OnErr result (self.new ≡ self.old) }
     {
         put(alloc, &mut self.files, path, bytes)
@@ -80,7 +80,8 @@ pub struct MemoryShelf {
     servers: Vec<Server>,
     ghost few: { length servers.items < 2 ^ 32 },
     // No path of a file is that of a folder of another.
-    ghost apart: { (k : ℕ) (files : Files) → k < length servers.items → HasNoFileAsFolder (slice_index_or servers.items k files) },
+    ghost apart: { (k : ℕ) (files : Files) → k < length servers.items
+        → HasNoFileAsFolder (slice_index_or servers.items k files) },
 }
 
 impl MemoryShelf {
@@ -102,9 +103,11 @@ impl MemoryShelf {
     /// The only error is want of memory, and it changes nothing.
     pub fn put(&mut self, server: u32, path: &FilePath, bytes: &[u8]) -> Result<bool, AllocError>
         requires { server < length (shelf_holds self.old) }
-        ensures refused { IfOk result (λ taken. (taken ≡ false) ↔ Clashes path.now (slice_index_or (shelf_holds self.old) server empty)) }
-        ensures put { IfOk result (λ taken. let files = slice_index_or (shelf_holds self.old) server empty in
-            shelf_holds self.new ≡ (if taken then slice_set (shelf_holds self.old) server (insert files path.now bytes.now) else shelf_holds self.old)) }
+        ensures refused { IfOk result (λ taken. (taken ≡ false)
+            ↔ Clashes path.now (slice_index_or (shelf_holds self.old) server empty)) }
+        ensures put { IfOk result (λ taken. shelf_holds self.new
+            ≡ (if taken then with_file (shelf_holds self.old) server path.now bytes.now
+            else shelf_holds self.old)) }
         ensures err { OnErr result (shelf_holds self.new ≡ shelf_holds self.old) }
     {
         let alloc = self.alloc;
@@ -115,13 +118,9 @@ impl MemoryShelf {
 
 /// It tells all that the servers hold, and never answers `Failed`.
 impl Shelf for MemoryShelf {
-    ghost use Rattle.std.specs.Prelude.{Some, length};
+    ghost use Rattle.rocks_outside.specs.Memory.{shelf_state};
 
-    ghost holds = { λ shelf. Some shelf.servers.items };
-
-    ghost server_count = { λ shelf. length shelf.servers.items };
-
-    ghost faults = { λ _. 0 };
+    ghost state = { shelf_state };
 
     fn servers(&self) -> u32 {
         self.servers.len() as u32
@@ -159,7 +158,8 @@ fn empty_servers(alloc: Global, count: u32) -> Result<Vec<Server>, AllocError>
 
 fn put(alloc: Global, files: &mut Held, path: &FilePath, bytes: &[u8]) -> Result<bool, AllocError>
     ensures refused { IfOk result (λ taken. (taken ≡ false) ↔ Clashes path.now (files_of files.old)) }
-    ensures put { IfOk result (λ taken. files_of files.new ≡ (if taken then insert (files_of files.old) path.now bytes.now else files_of files.old)) }
+    ensures put { IfOk result (λ taken. files_of files.new
+        ≡ (if taken then insert (files_of files.old) path.now bytes.now else files_of files.old)) }
     ensures err { OnErr result (files_of files.new ≡ files_of files.old) }
 {
     if clashes(path, files) {
@@ -184,17 +184,7 @@ fn any_in_the_way(path: &FilePath, files: &Held) -> bool
 fn is_in_the_way(path: &FilePath, held: &FilePath) -> bool
     ensures { result ≡ is_in_the_way path.now held.now }
 {
-    rest_below(path, held).is_some() || rest_below(held, path).is_some()
-}
-
-/// What follows the folder and its slash, in a path below the folder.
-fn rest_below<'a>(folder: &FilePath, path: &'a FilePath) -> Option<&'a str>
-    ensures rest { option_map (λ rest. rest.now) result ≡ below folder.now path.now }
-    ensures valid { IsTrue (is_file_path path.now) }
-{
-    path.as_str()
-        .strip_prefix(folder.as_str())?
-        .strip_prefix('/')
+    path.below(held).is_some() || held.below(path).is_some()
 }
 
 fn read(alloc: Global, files: &Held, path: &FilePath, limit: u32) -> Result<ShelfRead, AllocError>
@@ -204,11 +194,10 @@ fn read(alloc: Global, files: &Held, path: &FilePath, limit: u32) -> Result<Shel
     let Some(bytes) = files.get(path) else {
         return Ok(ShelfRead::Absent);
     };
-    let bytes = bytes.as_slice();
-    if bytes.len() > limit as usize {
+    if bytes.as_slice().len() > limit as usize {
         return Ok(ShelfRead::TooLong);
     }
-    Ok(ShelfRead::Bytes(Vec::from_slice(alloc, bytes)?))
+    Ok(ShelfRead::Bytes(bytes.copy(alloc)?))
 }
 
 fn list(alloc: Global, files: &Held, folder: &FilePath) -> Result<Vec<FilePath>, AllocError>
@@ -218,21 +207,9 @@ fn list(alloc: Global, files: &Held, folder: &FilePath) -> Result<Vec<FilePath>,
 {
     let mut paths = Vec::new(alloc);
     for path in files.keys() {
-        if let Some(rest) = rest_below(folder, path) {
-            paths.push(file_path(alloc, rest)?)?;
+        if let Some(rest) = path.below(folder) {
+            paths.push(FilePath::known(alloc, rest)?)?;
         }
     }
     Ok(paths)
-}
-
-/// The path that a text is known to be.
-fn file_path(alloc: Global, text: &str) -> Result<FilePath, AllocError>
-    requires { IsTrue (is_file_path text.now) }
-    ensures { IfOk result (λ path. path ≡ text.now) }
-{
-    match FilePath::from_text(alloc, text) {
-        Ok(path) => Ok(path),
-        Err(TextFault::NoMemory) => Err(AllocError),
-        Err(TextFault::BadPath | TextFault::BadName) => unreachable!(),
-    }
 }

@@ -1,10 +1,9 @@
-ghost use Rattle.std.specs.Prelude.{◌≡◌, ◌≤◌, ◌<◌, ℕ, List, Option, length, IfOk, IfSome, IsErrOf};
-ghost use Rattle.std.specs.List.{AllByRecursion};
-ghost use Rattle.rocks_text.specs.Files.{Files, HasNoFileAsFolder};
-ghost use Rattle.rocks_outside.specs.Counts.{HasRisen};
+ghost use Rattle.std.specs.Prelude.{◌≡◌, ◌<◌, IfOk, IfSome};
 ghost use Rattle.rocks_outside.specs.declared.shelf.ShelfError.TheVariants.{NoMemory};
-ghost use Rattle.rocks_outside.specs.Shelf.{held_at, held_below, IsRead, IsWithin, IsFolderListing};
+ghost use Rattle.rocks_outside.specs.Shelf.{ShelfState, held_at, held_below, IsRead, IsWithin};
+ghost use Rattle.rocks_outside.specs.Shelf.{IsFolderListing, AsksOnly, IsShelf};
 
+use rocks_bytes::Bytes;
 use rocks_text::FilePath;
 use std::alloc::{AllocError, AllocFailed, Global};
 
@@ -41,28 +40,20 @@ pub enum ShelfRead {
     /// A file that is longer than the limit.
     TooLong,
     /// The bytes of the file.
-    Bytes(Vec<u8>),
+    Bytes(Bytes),
 }
 
 /// The servers that offer rocks, numbered from 0 (this project's own). No call changes what they hold.
 ///
 /// `Failed` comes only where the count of faults rose in the call.
 pub trait Shelf {
-    /// The files of each server, where the shelf tells them.
-    ghost holds: { Self → Option (List Files) };
-
-    /// How many servers there are.
-    ghost server_count: { Self → ℕ };
-
-    /// How often the shelf has failed.
-    ghost faults: { Self → ℕ };
+    /// What contracts see of the shelf.
+    ghost state: { Self → ShelfState };
 
     /// How many servers there are.
     fn servers(&self) -> u32
-        ensures count { result ≡ server_count self.now }
-        ensures each { IfSome (holds self.now) (λ servers. length servers ≡ server_count self.now) }
-        // No path of a file is that of a folder of another.
-        ensures apart { IfSome (holds self.now) (λ servers. AllByRecursion HasNoFileAsFolder servers) };
+        ensures count { result ≡ (state self.now).servers }
+        ensures shelf { IsShelf (state self.now) };
 
     /// The file at a path of a server, up to `limit` bytes.
     fn read(
@@ -72,13 +63,11 @@ pub trait Shelf {
         path: &FilePath,
         limit: u32,
     ) -> Result<ShelfRead, ShelfError>
-        requires { server < server_count self.old }
-        ensures found { IfOk result (λ found. IfSome (holds self.old) (λ servers. IsRead limit (held_at servers server path.now) found)) }
+        requires { server < (state self.old).servers }
+        ensures found { IfOk result (λ found. IfSome (state self.old).holds
+            (λ servers. IsRead limit (held_at servers server path.now) found)) }
         ensures within { IfOk result (IsWithin limit) }
-        ensures holds { holds self.new ≡ holds self.old }
-        ensures server_count { server_count self.new ≡ server_count self.old }
-        ensures faults { faults self.old ≤ faults self.new }
-        ensures cause { IsErrOf result ShelfError.Failed → HasRisen (faults self.old) (faults self.new) };
+        ensures asks { AsksOnly result (state self.old) (state self.new) };
 
     /// The paths of the files below a folder of a server, relative to it and in byte order. A folder that isn't
     /// there has none.
@@ -88,11 +77,9 @@ pub trait Shelf {
         server: u32,
         folder: &FilePath,
     ) -> Result<Vec<FilePath>, ShelfError>
-        requires { server < server_count self.old }
-        ensures listed { IfOk result (λ paths. IfSome (holds self.old) (λ servers. paths.items ≡ held_below servers server folder.now)) }
+        requires { server < (state self.old).servers }
+        ensures listed { IfOk result (λ paths. IfSome (state self.old).holds
+            (λ servers. paths.items ≡ held_below servers server folder.now)) }
         ensures form { IfOk result (λ paths. IsFolderListing folder.now paths.items) }
-        ensures holds { holds self.new ≡ holds self.old }
-        ensures server_count { server_count self.new ≡ server_count self.old }
-        ensures faults { faults self.old ≤ faults self.new }
-        ensures cause { IsErrOf result ShelfError.Failed → HasRisen (faults self.old) (faults self.new) };
+        ensures asks { AsksOnly result (state self.old) (state self.new) };
 }

@@ -1,70 +1,118 @@
 -- From what the parts of a run leave to what the run leaves.
-use Rattle.std.proofs.Common.{◌≡◌, ℕ, List, [], ◌++◌, Option, None, Some, IfSome, Result, Ok, refl, sym, ap, ◌∙◌, subst, take, length, arith, is_some, true, false}
+use Rattle.std.proofs.Common.{◌≡◌, ◌+◌, ℕ, List, ◌++◌, Option, None, Some, IfSome, Result, Ok, Err, refl, sym, ap, ◌∙◌, subst, take, length, arith, is_some, true, false}
 use Rattle.std.proofs.lemmas.List.{append-nil, take_all}
 use Rattle.rocks_text.specs.Files.{Files}
+use Rattle.rocks_outside.specs.Device.{DeviceState, SaysOnly, Says, RisesByOneWhereTold, TellsTheSame}
 use Rattle.rocks_outside.specs.Told.{WhereTold}
+use Rattle.rocks_outside.specs.declared.device.DeviceError.{DeviceError}
+use Rattle.rocks_outside.specs.declared.device.DeviceError.TheVariants as device_error
+use Rattle.tree_model.specs.Rock.{Rock}
 use Rattle.tree_model.specs.Tree.{tree_of}
-use Rattle.rocks_session.specs.Step.{step}
-use Rattle.rocks_session.specs.Run.{IsReply, CarriesOut, SaysAtMost, status_of}
+use Rattle.rocks_session.specs.Execute.{CarriesOut}
+use Rattle.rocks_session.specs.Opened.{Opens, IsTreeOf, IsOpenAs}
+use Rattle.rocks_session.specs.Step.{Outcome, step, ticks}
+use Rattle.rocks_session.specs.Run.{Runs, IsUntouched, SaysAtMost, status_of}
 use Rattle.rocks_session.specs.declared.reply.Reply.{Reply}
 use Rattle.rocks_session.specs.declared.reply.Refusal.{Refusal}
 use Rattle.rocks_session.specs.declared.status.Status.{Status}
 use Rattle.rocks_session.specs.declared.status.Status.TheVariants.{Done, Refused}
+use Rattle.rocks_session.specs.declared.version.RockKey.{RockKey}
 use Rattle.rocks_session.specs.declared.words.Command.{Command}
 use Rattle.rocks_session.specs.declared.words.WordsFault.{WordsFault}
 
 abbrev Read : Type 0
 Read = Result Command WordsFault
 
-none_said : (text : List ℕ) (said : Option (List ℕ)) → WhereTold (λ old new. (n : ℕ) × (new ≡ old ++ take n text)) said said
-none_said text None = tt
-none_said text (Some said) = (0, sym (append-nil said))
+abbrev Held : Type 0
+Held = Option (List Files)
+
+-- the set that the files stand for is that of the tree that was opened
+pub opened_as : (set : List Rock) (keys : List RockKey) (before now : DeviceState) → IsUntouched before now → Opens before.files set → IsTreeOf set keys → IsOpenAs set keys now
+opened_as set keys before now left opens tree = record { tree = tree; opens = subst (λ f. Opens f set) (sym left.files) opens }
+
+-- ---- what was said
+
+abbrev AtMost : List ℕ → Option (List ℕ) → Option (List ℕ) → Type 0
+AtMost text before now = WhereTold (λ old new. (n : ℕ) × (new ≡ old ++ take n text)) before now
+
+nothing : (text : List ℕ) (before now : Option (List ℕ)) → now ≡ before → AtMost text before now
+nothing text None now same = subst (λ s. AtMost text None s) (sym same) tt
+nothing text (Some said) now same = subst (λ s. AtMost text (Some said) s) (sym same) (0, sym (append-nil said))
 
 -- where nothing was said
-pub says_nothing : (read : Read) (holds : Option (List Files)) (before now : Option (List ℕ)) → now ≡ before → SaysAtMost read holds before now
-says_nothing read None before now same = λ command is. tt
-says_nothing read (Some servers) before now same = λ command is. subst (λ s. WhereTold (λ old new. (n : ℕ) × (new ≡ old ++ take n (step servers [] command).text)) before s) (sym same) (none_said (step servers [] command).text before)
+pub says_nothing : (read : Read) (servers : Held) (before now : DeviceState) → now.said ≡ before.said → SaysAtMost read servers before now
+says_nothing read None before now same = λ command set is opens. tt
+says_nothing read (Some held) before now same = λ command set is opens. nothing (step held set command).text before.said now.said same
 
--- where a first part of the reply was said
-pub says_part : (read : Read) (holds : Option (List Files)) (command : Command) (reply : Reply) (before mid now : Option (List ℕ)) → read ≡ Ok command → mid ≡ before → IfSome holds (λ servers. IsReply (step servers [] command) reply)
-    → WhereTold (λ old new. (n : ℕ) × (new ≡ old ++ take n reply.text.items)) mid now → SaysAtMost read holds before now
-says_part read None command reply before mid now is same replies said = λ other says_so. tt
-says_part read (Some servers) command reply before mid now is same replies said = λ other says_so.
-    let one : Ok command ≡ Ok other = sym is ∙ says_so in
-    let commands : command ≡ other = cc in
-    let text : reply.text.items ≡ (step servers [] other).text = replies.text ∙ ap (λ (c : Command). (step servers [] c).text) commands in
-    subst (λ t. WhereTold (λ old new. (n : ℕ) × (new ≡ old ++ take n t)) before now) text (subst (λ s. WhereTold (λ old new. (n : ℕ) × (new ≡ old ++ take n reply.text.items)) s now) same said)
+-- a part of a reply, said after nothing was
+part_of : (text bytes : List ℕ) (first exec now : Option (List ℕ)) → exec ≡ first → bytes ≡ text → AtMost bytes exec now → AtMost text first now
+part_of text bytes first exec now quiet same said = subst (λ t. AtMost t first now) same (subst (λ s. AtMost bytes s now) quiet said)
 
-all_is_part : (text : List ℕ) (before now : Option (List ℕ)) → WhereTold (λ old new. new ≡ old ++ text) before now → WhereTold (λ old new. (n : ℕ) × (new ≡ old ++ take n text)) before now
+all_is_part : (text : List ℕ) (before now : Option (List ℕ)) → WhereTold (λ old new. new ≡ old ++ text) before now → AtMost text before now
 all_is_part text None None said = tt
 all_is_part text None (Some new) said = absurd said
 all_is_part text (Some old) None said = absurd said
 all_is_part text (Some old) (Some new) said = (length text, said ∙ ap (λ (t : List ℕ). old ++ t) (sym (take_all (length text) text (omega arith))))
 
--- where the reply was said
-pub says_all : (read : Read) (holds : Option (List Files)) (command : Command) (reply : Reply) (before mid now : Option (List ℕ)) → read ≡ Ok command → mid ≡ before → IfSome holds (λ servers. IsReply (step servers [] command) reply)
-    → WhereTold (λ old new. new ≡ old ++ reply.text.items) mid now → SaysAtMost read holds before now
-says_all read holds command reply before mid now is same replies said = says_part read holds command reply before mid now is same replies (all_is_part reply.text.items mid now said)
+-- ---- after a command
 
-writes : (T : Files) (files executed : Option Files) → IfSome files (λ f. f ≡ tree_of []) → WhereTold (λ before now. Unit {0}) files executed → IfSome executed (λ f. f ≡ T) → WhereTold (λ before now. (before ≡ tree_of []) × (now ≡ T)) files executed
-writes T None None empty told is = tt
-writes T None (Some new) empty told is = absurd told
-writes T (Some old) None empty told is = absurd told
-writes T (Some old) (Some new) empty told is = (empty, is)
+module _ (command : Command) (servers : Held) (reply : Reply) (keys keys_now : List RockKey) (first mid exec now : DeviceState)
+    (left : IsUntouched first mid) (tree : (set : List Rock) → Opens first.files set → IsTreeOf set keys)
+    (carried : (set : List Rock) → IsOpenAs set keys mid → CarriesOut command set servers reply keys_now mid exec)
+    (quiet : exec.said ≡ mid.said) where
+  carries : (set : List Rock) → Opens first.files set → CarriesOut command set servers reply keys_now mid exec
+  carries set opens = carried set (opened_as set keys first mid left opens (tree set opens))
 
--- a command that was carried out
-pub carried_out : (holds : Option (List Files)) (command : Command) (reply : Reply) (status : Status) (files opened executed now : Option Files) (said mid told : Option (List ℕ))
-    → opened ≡ files → IfSome files (λ f. f ≡ tree_of []) → WhereTold (λ before after. Unit {0}) opened executed → now ≡ executed
-    → IfSome holds (λ servers. IfSome executed (λ f. f ≡ tree_of (step servers [] command).set))
-    → mid ≡ said → WhereTold (λ old new. new ≡ old ++ reply.text.items) mid told
-    → IfSome holds (λ servers. IsReply (step servers [] command) reply) → status ≡ status_of reply.refusal
-    → IfSome holds (λ servers. CarriesOut (step servers [] command) status files now said told)
-carried_out None command reply status files opened executed now said mid told same empty kept after is quiet says replies ends = tt
-carried_out (Some servers) command reply status files opened executed now said mid told same empty kept after is quiet says replies ends = record {
-  ends = ends ∙ ap status_of replies.refusal;
-  writes = subst (λ f. WhereTold (λ old new. (old ≡ tree_of []) × (new ≡ tree_of (step servers [] command).set)) files f) (sym after) (writes (tree_of (step servers [] command).set) files executed empty (subst (λ f. WhereTold (λ old new. Unit {0}) f executed) same kept) is);
-  says = subst (λ t. WhereTold (λ old new. new ≡ old ++ t) said told) replies.text (subst (λ s. WhereTold (λ old new. new ≡ old ++ reply.text.items) s told) quiet says);
-}
+  silent : exec.said ≡ first.said
+  silent = quiet ∙ left.said
+
+  -- where a first part of the reply was said
+  says_part : (read : Read) (bytes : List ℕ) → read ≡ Ok command → bytes ≡ reply.text → AtMost bytes exec.said now.said → SaysAtMost read servers first now
+  says_part read bytes is same said = λ other set says_so opens. from other set says_so (carries set opens) servers (carries set opens).model.told
+    where
+      from : (other : Command) (set : List Rock) → read ≡ Ok other → (done : CarriesOut command set servers reply keys_now mid exec) → (h : Held) → IfSome h (λ held. done.outcome ≡ step held set command)
+          → IfSome h (λ held. AtMost (step held set other).text first.said now.said)
+      from other set says_so done None told = tt
+      from other set says_so done (Some held) told =
+          let one : Ok command ≡ Ok other = sym is ∙ says_so in
+          let commands : command ≡ other = cc in
+          let text : bytes ≡ (step held set other).text = same ∙ done.text ∙ ap (λ (o : Outcome). o.text) told ∙ ap (λ (c : Command). (step held set c).text) commands in
+          part_of _ bytes first.said exec.said now.said silent text said
+
+  pub says_all : (read : Read) (bytes : List ℕ) (u : Unit {0}) → read ≡ Ok command → bytes ≡ reply.text → SaysOnly (Ok u) bytes exec now → SaysAtMost read servers first now
+  says_all read bytes u is same says = says_part read bytes is same (all_is_part bytes exec.said now.said says.said)
+
+  pub says_some : (read : Read) (bytes : List ℕ) (e : DeviceError) → e ≡ device_error.Failed → read ≡ Ok command → bytes ≡ reply.text → SaysOnly {T = Unit {0}} (Err e) bytes exec now → SaysAtMost read servers first now
+  says_some read bytes e failed is same says =
+      let said : Says {T = Unit {0}} (Err device_error.Failed) bytes exec.said now.said = subst (λ f. Says {T = Unit {0}} (Err f) bytes exec.said now.said) failed says.said in
+      says_part read bytes is same said
+
+  pub says_none : (read : Read) (bytes : List ℕ) (e : DeviceError) → e ≡ device_error.NoMemory → SaysOnly {T = Unit {0}} (Err e) bytes exec now → SaysAtMost read servers first now
+  says_none read bytes e none says =
+      let said : Says {T = Unit {0}} (Err device_error.NoMemory) bytes exec.said now.said = subst (λ f. Says {T = Unit {0}} (Err f) bytes exec.said now.said) none says.said in
+      says_nothing read servers first now (said ∙ silent)
+
+  -- a run that carried its command out
+  pub runs : (status : Status) (bytes : List ℕ) (u : Unit {0}) → TellsTheSame first exec → bytes ≡ reply.text → SaysOnly (Ok u) bytes exec now → status ≡ status_of reply.refusal
+      → (set : List Rock) → Opens first.files set → Runs command set servers status first now
+  runs status bytes u tells same says ends set opens =
+      let done = carries set opens in
+      record {
+        outcome = done.outcome;
+        model = done.model;
+        ends = ends ∙ ap status_of done.refusal;
+        files = subst (λ f. IfSome f (λ files. files ≡ tree_of done.outcome.set)) (sym says.files) done.files;
+        says = subst (λ t. WhereTold (λ old new. new ≡ old ++ t) first.said now.said) (same ∙ done.text) (subst (λ s. WhereTold (λ old new. new ≡ old ++ bytes) s now.said) silent says.said);
+        clock = ticked first.files mid.files exec.files (ticks set done.outcome) (sym left.files) tells.files done.clock says.clock;
+      }
+    where
+      ticked : (first_files mid_files exec_files : Option Files) (n : ℕ) → first_files ≡ mid_files → WhereTold (λ _ _. Unit {0}) first_files exec_files
+          → IfSome mid_files (λ _. exec.clock ≡ mid.clock + n) → RisesByOneWhereTold exec_files exec.clock now.clock → IfSome first_files (λ _. now.clock ≡ first.clock + n + 1)
+      ticked None mid_files exec_files n same_files told worked up = tt
+      ticked (Some files) mid_files None n same_files told worked up = absurd told
+      ticked (Some files) mid_files (Some after) n same_files told worked up =
+          let spent = subst (λ f. IfSome f (λ _. exec.clock ≡ mid.clock + n)) (sym same_files) worked in
+          omega (arith, spent, up, left.clock)
 
 pub refused_ends : (refusal : Option Refusal) → is_some refusal ≡ true → Refused ≡ status_of refusal
 refused_ends None e = cc

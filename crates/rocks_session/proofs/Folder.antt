@@ -21,9 +21,10 @@ use Rattle.rocks_text.specs.declared.item.Kind.TheVariants.{Lua}
 use Rattle.rocks_outside.specs.Device.{IsAscending}
 use Rattle.rocks_outside.specs.Shelf.{held_at, paths_below, held_below}
 use Rattle.rocks_outside.proofs.Held.{sorted_from_ascending}
-use Rattle.tree_model.proofs.PlacePaths.{both}
+use Rattle.tree_paths.proofs.PlacePaths.{both}
+use Rattle.tree_paths.specs.Places.{plain_path}
 use Rattle.tree_model.specs.Rock.{Rock}
-use Rattle.tree_model.specs.Tree.{plain_path, rockspec_name, rockspec_path, HaveOwnPaths}
+use Rattle.tree_model.specs.Tree.{rockspec_name, rockspec_path, HaveOwnPaths}
 use Rattle.rocks_session.specs.Unpacked.{unpacked_folder, unpacked_path, unpacked_rockspec, is_file_within, is_taken, is_whole_taken, module_at, item_at}
 use Rattle.rocks_session.specs.Staged.{file_of, placed, AreTaken, IsNotTaken, IsFolderOffer, IsModule, StandFor}
 use Rattle.rocks_session.specs.declared.take.Offer.TheVariants.{Rock as Ready}
@@ -65,26 +66,26 @@ module _ (key : RockKey) (spec : List ℕ) (server : ℕ) where
   pub module_taken : (holds : Option (List Files)) (front : List (List ℕ)) (staged : List Staged) (path : List ℕ) (file : Staged) → AreTaken key spec holds server front staged → bytes_eq path (rockspec_name key.name key.version) ≡ false
       → starts_with nat_eq path (codes "lua/") ≡ true → file.at ≡ codes "share/lua/5.4/" ++ drop 4 path → IfSome holds (λ servers. IsModule path (held_at servers server (unpacked_path key.name key.version path)) (Some file)) → AreTaken key spec holds server (front ++ path ∷ []) (staged ++ file ∷ [])
   module_taken holds front staged path file so_far other lua at is = record {
-    items = so_far.items ++ (record { kind = Lua; path = drop 4 path }, file.bytes.items) ∷ [];
+    items = so_far.items ++ (record { kind = Lua; path = drop 4 path }, file.bytes) ∷ [];
     staged_as = map-append file_of staged (file ∷ []) ∙ ap (λ (l : List (List ℕ × List ℕ)). l ++ file_of file ∷ []) so_far.staged_as
-        ∙ ap (λ (p : List ℕ). (rockspec_path key.name key.version, spec) ∷ (map placed so_far.items ++ (p, file.bytes.items) ∷ [])) at
-        ∙ ap (λ (l : List (List ℕ × List ℕ)). (rockspec_path key.name key.version, spec) ∷ l) (sym (map-append placed so_far.items ((record { kind = Lua; path = drop 4 path }, file.bytes.items) ∷ [])));
-    modules = map-append (λ item. item.0) so_far.items ((record { kind = Lua; path = drop 4 path }, file.bytes.items) ∷ []) ∙ ap (λ (l : List Item). l ++ record { kind = Lua; path = drop 4 path } ∷ []) so_far.modules
+        ∙ ap (λ (p : List ℕ). (rockspec_path key.name key.version, spec) ∷ (map placed so_far.items ++ (p, file.bytes) ∷ [])) at
+        ∙ ap (λ (l : List (List ℕ × List ℕ)). (rockspec_path key.name key.version, spec) ∷ l) (sym (map-append placed so_far.items ((record { kind = Lua; path = drop 4 path }, file.bytes) ∷ [])));
+    modules = map-append (λ item. item.0) so_far.items ((record { kind = Lua; path = drop 4 path }, file.bytes) ∷ []) ∙ ap (λ (l : List Item). l ++ record { kind = Lua; path = drop 4 path } ∷ []) so_far.modules
         ∙ sym (filter_map-append (module_at key.name key.version) front (path ∷ []) ∙ rw (other, lua) refl);
     told = told holds so_far.told is;
   }
     where
       told : (h : Option (List Files)) → IfSome h (λ servers. (files : Files) → slice_get servers server ≡ Some files → is_file_within 262144 (get files (unpacked_rockspec key.name key.version)) ≡ true → (list_all (is_taken files key.name key.version) front ≡ true) × (so_far.items ≡ filter_map (item_at files key.name key.version) front))
           → IfSome h (λ servers. IsModule path (held_at servers server (unpacked_path key.name key.version path)) (Some file))
-          → IfSome h (λ servers. (files : Files) → slice_get servers server ≡ Some files → is_file_within 262144 (get files (unpacked_rockspec key.name key.version)) ≡ true → (list_all (is_taken files key.name key.version) (front ++ path ∷ []) ≡ true) × (so_far.items ++ (record { kind = Lua; path = drop 4 path }, file.bytes.items) ∷ [] ≡ filter_map (item_at files key.name key.version) (front ++ path ∷ [])))
+          → IfSome h (λ servers. (files : Files) → slice_get servers server ≡ Some files → is_file_within 262144 (get files (unpacked_rockspec key.name key.version)) ≡ true → (list_all (is_taken files key.name key.version) (front ++ path ∷ []) ≡ true) × (so_far.items ++ (record { kind = Lua; path = drop 4 path }, file.bytes) ∷ [] ≡ filter_map (item_at files key.name key.version) (front ++ path ∷ [])))
       told None t m = tt
       told (Some servers) t m = λ files e f.
           let before = t files e f in
           let here = held_here servers files (unpacked_path key.name key.version path) e in
           let fits : (starts_with nat_eq path (codes "lua/") && is_file_within 16777216 (get files (unpacked_path key.name key.version path))) ≡ true = ap (λ (o : Option (List ℕ)). starts_with nat_eq path (codes "lua/") && is_file_within 16777216 o) (sym here) ∙ m.0 in
-          let held : get files (unpacked_path key.name key.version path) ≡ Some file.bytes.items = sym here ∙ m.1 in (
+          let held : get files (unpacked_path key.name key.version path) ≡ Some file.bytes = sym here ∙ m.1 in (
             list_all-append (is_taken files key.name key.version) front (path ∷ []) ∙ both _ _ before.0 (both _ _ (rw other fits) refl),
-            ap (λ (l : List (Item × List ℕ)). l ++ (record { kind = Lua; path = drop 4 path }, file.bytes.items) ∷ []) before.1
+            ap (λ (l : List (Item × List ℕ)). l ++ (record { kind = Lua; path = drop 4 path }, file.bytes) ∷ []) before.1
                 ∙ sym (filter_map-append (item_at files key.name key.version) front (path ∷ []) ∙ rw (other, lua, held) refl),
           )
 

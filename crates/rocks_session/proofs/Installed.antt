@@ -1,52 +1,73 @@
 -- After the files of an offered rock are written over the empty tree, it is the tree of the set with that rock.
-use Rattle.std.proofs.Common.{◌≡◌, ℕ, false, List, [], ◌∷◌, Option, None, Some, IfSome, map, sym, ap, ◌∙◌, subst, codes, Vec, Global}
+use Rattle.std.proofs.Common.{◌≡◌, ◌≢◌, ◌+◌, ℕ, false, List, [], ◌∷◌, Option, None, Some, IfSome, length, map, refl, sym, ap, ◌∙◌, subst, codes, arith, inl, Vec, Global, ◌-◌}
+use Rattle.std.proofs.lemmas.List.{append-nil, length-map}
+use Rattle.std.proofs.lemmas.Slice.Eq.{bytes_eq-Decides}
+use Rattle.std.specs.Prelude.{Ok}
 use Rattle.std.specs.Str.{bytes_eq}
 use Rattle.std.specs.FinMap.{empty}
 use Rattle.rocks_text.specs.Files.{Files}
+use Rattle.rocks_outside.specs.Device.{DeviceState}
 use Rattle.rocks_outside.specs.Told.{WhereTold}
 use Rattle.tree_model.specs.Rock.{Rock}
-use Rattle.tree_model.specs.Tree.{files_of, tree_of, HaveOwnPaths}
+use Rattle.tree_model.specs.Tree.{files_of, tree_of, file_count, HaveOwnPaths}
+use Rattle.rocks_session.specs.Execute.{CarriesOut}
+use Rattle.rocks_session.specs.Opened.{IsOpenAs}
+use Rattle.rocks_session.specs.Staged.{file_of, put_all, IsSound, IsOffer, Installs}
+use Rattle.rocks_session.specs.Step.{step, key_of, joined_by, added_text}
 use Rattle.rocks_session.specs.Unpacked.{unpacked}
-use Rattle.rocks_session.specs.Staged.{file_of, put_all, IsSound, IsOffer}
-use Rattle.rocks_session.specs.Step.{step}
-use Rattle.rocks_session.specs.Run.{AreOfSet}
+use Rattle.rocks_session.specs.declared.reply.Reply.{Reply}
 use Rattle.rocks_session.specs.declared.take.Staged.{Staged}
 use Rattle.rocks_session.specs.declared.take.Offer.TheVariants.{Rock as Ready}
 use Rattle.rocks_session.specs.declared.version.RockKey.{RockKey}
 use Rattle.rocks_session.specs.declared.words.Command.TheVariants.{Add}
 use Rattle.rocks_session.proofs.Put.{tree_of_one}
 
-module _ (key : RockKey) (staged : Vec Staged Global) where
-  -- the files are those that were staged, over none
-  abbrev Written : Option Files → Option Files → Type 0
-  Written before now = WhereTold (λ old new. new ≡ put_all (map file_of staged.items) old) before now
+-- what a test of texts that failed says
+pub not_the_text : (text other : List ℕ) → bytes_eq text other ≡ false → text ≢ other
+not_the_text text other differs same = let yes = (bytes_eq-Decides text other).1 same in cc
 
-  tree_is : (rock : Rock) (old new : Files) → old ≡ tree_of [] → new ≡ put_all (map file_of staged.items) old → map file_of staged.items ≡ files_of rock → HaveOwnPaths (files_of rock) → new ≡ tree_of (rock ∷ [])
-  tree_is rock old new none written same own =
-      written ∙ ap (put_all (map file_of staged.items)) none ∙ ap (λ (files : List (List ℕ × List ℕ)). put_all files empty) same ∙ tree_of_one rock own
+module _ (key : RockKey) (vec : Vec Staged Global) (before now : DeviceState) where
+  written : (rock : Rock) (first after : Option Files) → map file_of vec.items ≡ files_of rock → HaveOwnPaths (files_of rock) → IfSome first (λ files. files ≡ tree_of []) → WhereTold (λ old new. new ≡ put_all (map file_of vec.items) old) first after → IfSome after (λ files. files ≡ tree_of (rock ∷ []))
+  written rock None None same own none put = tt
+  written rock None (Some new) same own none put = absurd put
+  written rock (Some old) None same own none put = tt
+  written rock (Some old) (Some new) same own none put =
+      put ∙ ap (put_all (map file_of vec.items)) none ∙ ap (λ (files : List (List ℕ × List ℕ)). put_all files empty) same ∙ tree_of_one rock own
 
-  pub written_set : (before now : Option Files) (rocks : List RockKey) → IfSome before (λ files. files ≡ tree_of []) → Written before now → IsSound key (Ready staged) → rocks ≡ key ∷ [] → IfSome now (λ files. (set : List Rock) × AreOfSet set rocks files)
-  written_set None None rocks none written sound keys = tt
-  written_set None (Some new) rocks none written sound keys = absurd written
-  written_set (Some old) None rocks none written sound keys = tt
-  written_set (Some old) (Some new) rocks none written sound keys =
-      let rock = sound.0 in (
-        rock ∷ [],
-        record {
-          same_keys = keys ∙ ap (λ (k : RockKey). k ∷ []) (λ i. record { name = sym sound.1.name i; version = sym sound.1.version i });
-          same_files = tree_is rock old new none written sound.1.files sound.1.own_paths;
-        },
-      )
+  counted : (rock : Rock) → map file_of vec.items ≡ files_of rock → length vec.items ≡ file_count (rock ∷ [])
+  counted rock same = sym (length-map vec.items file_of) ∙ ap length same ∙ ap length (sym (append-nil (files_of rock)))
 
-  written_step : (servers : List Files) (old new : Files) → bytes_eq key.name (codes "lua") ≡ false → old ≡ tree_of [] → new ≡ put_all (map file_of staged.items) old → IsSound key (Ready staged) → IsOffer servers key (Ready staged) → new ≡ tree_of (step servers [] (Add key)).set
-  written_step servers old new other none written sound offer =
-      let own : HaveOwnPaths (files_of (unpacked offer.0 key.name key.version)) = subst HaveOwnPaths (sym sound.1.files ∙ offer.2.1) sound.1.own_paths in
-      let is : new ≡ tree_of (unpacked offer.0 key.name key.version ∷ []) = tree_is (unpacked offer.0 key.name key.version) old new none written offer.2.1 own in
-      rw (other, offer.1, offer.2.0) is
+  ticked : (rock : Rock) (first : Option Files) → map file_of vec.items ≡ files_of rock → IfSome first (λ _. now.clock ≡ before.clock + length vec.items + 1) → IfSome first (λ _. now.clock ≡ before.clock + (file_count (rock ∷ []) - file_count [] + 1))
+  ticked rock None same tick = tt
+  ticked rock (Some files) same tick = omega (arith, tick, counted rock same)
 
-  pub written_files : (holds : Option (List Files)) (before now : Option Files) → bytes_eq key.name (codes "lua") ≡ false → IfSome before (λ files. files ≡ tree_of []) → Written before now → IsSound key (Ready staged) → IfSome holds (λ servers. IsOffer servers key (Ready staged)) → IfSome holds (λ servers. IfSome now (λ files. files ≡ tree_of (step servers [] (Add key)).set))
-  written_files None before now other none written sound offer = tt
-  written_files (Some servers) None None other none written sound offer = tt
-  written_files (Some servers) None (Some new) other none written sound offer = absurd written
-  written_files (Some servers) (Some old) None other none written sound offer = tt
-  written_files (Some servers) (Some old) (Some new) other none written sound offer = written_step servers old new other none written sound offer
+  module _ (keys_before keys_now : List RockKey) (text : List ℕ) (other : bytes_eq key.name (codes "lua") ≡ false) (says : text ≡ added_text key) where
+    abbrev reply : Reply
+    reply = record { refusal = None; text = text }
+
+    from_empty : (holds : Option (List Files)) (rock : Rock) → key_of rock ≡ key → map file_of vec.items ≡ files_of rock → HaveOwnPaths (files_of rock) → IfSome holds (λ held. joined_by [] rock ≡ step held [] (Add key))
+        → IsOpenAs [] keys_before before → (done : Unit {0}) → Installs (Ok done) key vec.items keys_before keys_now before now → CarriesOut (Add key) [] holds reply keys_now before now
+    from_empty holds rock is same own told opened done installs = record {
+      outcome = joined_by [] rock;
+      model = record { told = told; own = inl (rock, not_the_text key.name (codes "lua") other, is, refl) };
+      refusal = refl;
+      text = says ∙ ap added_text (sym is);
+      tree = installs.tree ∙ rw opened.tree (ap (λ (k : RockKey). k ∷ []) (sym is));
+      files = written rock before.files now.files same own opened.opens.files installs.files;
+      clock = ticked rock before.files same installs.ticked;
+    }
+
+    from_offer : (holds : Option (List Files)) → IsSound key (Ready vec) → IfSome holds (λ servers. IsOffer servers key (Ready vec))
+        → IsOpenAs [] keys_before before → (done : Unit {0}) → Installs (Ok done) key vec.items keys_before keys_now before now → CarriesOut (Add key) [] holds reply keys_now before now
+    from_offer None sound offer opened done installs =
+        from_empty None sound.0 (λ i. record { name = sound.1.name i; version = sound.1.version i }) sound.1.files sound.1.own_paths tt opened done installs
+    from_offer (Some servers) sound offer opened done installs =
+        from_empty (Some servers) (unpacked offer.0 key.name key.version) refl offer.2.1 (subst HaveOwnPaths (sym sound.1.files ∙ offer.2.1) sound.1.own_paths) (rw (other, offer.1, offer.2.0) refl) opened done installs
+
+    -- from whatever set the tree stands for
+    pub installed : (holds : Option (List Files)) → IsSound key (Ready vec) → IfSome holds (λ servers. IsOffer servers key (Ready vec))
+        → (done : Unit {0}) → Installs (Ok done) key vec.items keys_before keys_now before now
+        → (set : List Rock) → IsOpenAs set keys_before before → CarriesOut (Add key) set holds reply keys_now before now
+    installed holds sound offer done installs set opened =
+        subst (λ s. CarriesOut (Add key) s holds reply keys_now before now) (sym opened.opens.empty)
+        (from_offer holds sound offer (subst (λ s. IsOpenAs s keys_before before) opened.opens.empty opened) done installs)

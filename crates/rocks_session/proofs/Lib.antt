@@ -1,11 +1,16 @@
+mod Adding
+mod Asking
 mod Carried
 mod Complete
 mod Folder
 mod FromWords
 mod Installed
+mod Listed
 mod Listing
 mod Offers
+mod Opening
 mod PathTexts
 mod Put
 mod Servers
 mod Strip
+mod Writing

@@ -1,5 +1,5 @@
 -- From a folder's offer to that of all servers.
-use Rattle.std.proofs.Common.{◌≡◌, ◌+◌, ℕ, Bool, true, false, ◌&&◌, List, [], ◌∷◌, ◌++◌, Option, None, Some, IfSome, length, drop, append_assoc, length-append, refl, sym, ap, ◌∙◌, subst, slice_get, Vec, Global}
+use Rattle.std.proofs.Common.{◌≡◌, ◌+◌, ℕ, Bool, true, false, ◌&&◌, List, [], ◌∷◌, ◌++◌, Option, None, Some, IfSome, length, drop, append_assoc, length-append, refl, sym, ap, ◌∙◌, subst}
 use Rattle.std.proofs.lemmas.List.{drop_at}
 use Rattle.std.proofs.lemmas.Bool.Decides.{Decides-eqb}
 use Rattle.std.proofs.lemmas.Slice.Eq.{starts_is, bytes_eq-Decides}
@@ -9,11 +9,11 @@ use Rattle.std.specs.Str.{bytes_eq}
 use Rattle.std.specs.Ordering.{eq_by_cmp}
 use Rattle.std.specs.FinMap.{get, contains_key, keys, contains_key-keys}
 use Rattle.rocks_text.specs.Files.{Files, path_cmp}
-use Rattle.rocks_outside.specs.Shelf.{below}
+use Rattle.rocks_text.specs.Paths.{below}
 use Rattle.tree_model.proofs.PathTies.{by_bool, tied}
 use Rattle.tree_model.specs.Tree.{rockspec_name}
 use Rattle.rocks_session.specs.Unpacked.{unpacked_folder, unpacked_rockspec, is_file_within, is_taken, is_whole_taken}
-use Rattle.rocks_session.specs.Staged.{IsFoundIn, IsFolderOffer, IsOffer}
+use Rattle.rocks_session.specs.Staged.{IsFoundIn, IsOffer, FolderOffers}
 use Rattle.rocks_session.specs.declared.take.Found.TheVariants.{TooLong, At}
 use Rattle.rocks_session.specs.declared.take.Offer.{Offer}
 use Rattle.rocks_session.specs.declared.take.Offer.TheVariants.{Absent, NotServed, Rock as Ready}
@@ -60,12 +60,7 @@ pub too_long_offer : (key : RockKey) (holds : Option (List Files)) → IfSome ho
 too_long_offer key None found = tt
 too_long_offer key (Some servers) found = (found.0, found.1, spec_refuses key found.0 found.2 found.3)
 
--- what the folder of a server offers, where the shelf tells
-abbrev pub FolderOffers : RockKey → (server : ℕ) → Vec ℕ Global → Offer → Option (List Files) → Type 0
-FolderOffers key server spec offer holds = IfSome holds (λ servers. (files : Files) → slice_get servers server ≡ Some files → get files (unpacked_rockspec key.name key.version) ≡ Some spec.items
-    → is_file_within 262144 (get files (unpacked_rockspec key.name key.version)) ≡ true → IsFolderOffer files key offer)
-
-pub folder_offer : (key : RockKey) (server : ℕ) (spec : Vec ℕ Global) (offer : Offer) (holds now : Option (List Files)) → now ≡ holds → IfSome holds (λ servers. IsFoundIn servers (unpacked_rockspec key.name key.version) (At server spec)) → FolderOffers key server spec offer now → IfSome holds (λ servers. IsOffer servers key offer)
+pub folder_offer : (key : RockKey) (server : ℕ) (spec : List ℕ) (offer : Offer) (holds now : Option (List Files)) → now ≡ holds → IfSome holds (λ servers. IsFoundIn servers (unpacked_rockspec key.name key.version) (At server spec)) → FolderOffers key server spec offer now → IfSome holds (λ servers. IsOffer servers key offer)
 folder_offer key server spec offer holds now same found offered = from offer holds found (subst (FolderOffers key server spec offer) same offered)
   where
     from : (o : Offer) (h : Option (List Files)) → IfSome h (λ servers. IsFoundIn servers (unpacked_rockspec key.name key.version) (At server spec)) → FolderOffers key server spec o h → IfSome h (λ servers. IsOffer servers key o)

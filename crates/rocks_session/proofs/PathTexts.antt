@@ -10,7 +10,7 @@ use Rattle.std.specs.Char.{is_ascii_alphanumeric, is_ascii_digit}
 use Rattle.std.specs.Str.{bytes_eq}
 use Rattle.rocks_text.specs.Texts.{is_name_byte, is_name, is_part_byte, is_part, parts, is_file_path, is_tree_path}
 use Rattle.tree_model.specs.Tree.{rockspec_name, rockspec_path}
-use Rattle.tree_model.proofs.PlacePaths.{conj, both}
+use Rattle.tree_paths.proofs.PlacePaths.{conj, both}
 use Rattle.rocks_session.specs.Unpacked.{unpacked_folder, unpacked_rockspec}
 use Rattle.rocks_session.specs.Version.{is_dash, is_body_byte, is_rock_version}
 

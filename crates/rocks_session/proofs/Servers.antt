@@ -4,8 +4,6 @@ use Rattle.std.proofs.lemmas.Bool.Decides.{nat_tests}
 use Rattle.std.specs.FinMap.{get}
 use Rattle.rocks_text.specs.Files.{Files}
 use Rattle.rocks_outside.specs.Shelf.{held_at, IsRead}
-use Rattle.std.specs.Prelude.{Vec}
-use Rattle.std.specs.declared.alloc.Global.{Global}
 use Rattle.rocks_outside.specs.declared.shelf.ShelfRead.{ShelfRead}
 use Rattle.rocks_outside.specs.declared.shelf.ShelfRead.TheVariants.{Absent, TooLong, Bytes}
 use Rattle.rocks_session.specs.declared.take.Found.TheVariants as at
@@ -47,12 +45,12 @@ module _ (path : List ℕ) (i : ℕ) (read : ShelfRead) where
       let here = found path long.0 servers i long.1 in
       (here.0, sym before ∙ here.3, ap is_some here.2, not_within long.0 (get here.0 path) here.2 long.2)
 
-  pub found_bytes : (bytes : Vec ℕ Global) (server : ℕ) (holds now : Option (List Files)) → server ≡ i → now ≡ holds → read ≡ Bytes bytes → Reads now → NoneBefore holds i → IfSome holds (λ servers. IsFoundIn servers path (at.At server bytes))
+  pub found_bytes : (bytes : List ℕ) (server : ℕ) (holds now : Option (List Files)) → server ≡ i → now ≡ holds → read ≡ Bytes bytes → Reads now → NoneBefore holds i → IfSome holds (λ servers. IsFoundIn servers path (at.At server bytes))
   found_bytes bytes server None now where_ same is reads before = tt
   found_bytes bytes server (Some servers) now where_ same is reads before =
       let short : IsRead 262144 (held_at servers i path) (Bytes bytes) = subst (λ r. IsRead 262144 (held_at servers i path) r) is (subst (λ h. IfSome h (λ all. IsRead 262144 (held_at all i path) read)) same reads) in
-      let here = found path bytes.items servers i short.0 in
-      (here.0, sym before ∙ here.3, subst (λ k. slice_get servers k ≡ Some here.0) (sym where_) here.1, here.2, within bytes.items (get here.0 path) here.2 short.1)
+      let here = found path bytes servers i short.0 in
+      (here.0, sym before ∙ here.3, subst (λ k. slice_get servers k ≡ Some here.0) (sym where_) here.1, here.2, within bytes (get here.0 path) here.2 short.1)
 
   pub not_here : (holds now : Option (List Files)) (count : ℕ) → now ≡ holds → i < count → IfSome holds (λ servers. length servers ≡ count) → read ≡ Absent → Reads now → NoneBefore holds i → NoneBefore holds (i + 1)
   not_here None now count same more each is reads before = tt

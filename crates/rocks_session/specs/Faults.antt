@@ -1,16 +1,17 @@
 -- Which fault of a layer stands for which fault below it, and what causes each.
-use Rattle.std.specs.Prelude.{ℕ, ◌≡◌, List, ◌∷◌, Option, IfSome}
+use Rattle.std.specs.Prelude.{ℕ, ◌≡◌, List, ◌∷◌, IfSome}
 use Rattle.std.specs.FinMap.{keys}
 use Rattle.rocks_text.specs.Files.{Files}
 use Rattle.rocks_outside.specs.Counts.{HasRisen}
+use Rattle.rocks_outside.specs.Device.{DeviceState}
 use Rattle.rocks_outside.specs.declared.device.DeviceError as device
 use Rattle.rocks_outside.specs.declared.device.DeviceError.TheVariants as device_error
 use Rattle.rocks_outside.specs.declared.shelf.ShelfError as shelf
 use Rattle.rocks_outside.specs.declared.shelf.ShelfError.TheVariants as shelf_error
-use Rattle.rocks_session.specs.declared.tree.OpenFault.{OpenFault}
-use Rattle.rocks_session.specs.declared.tree.OpenFault.TheVariants as open_fault
-use Rattle.rocks_session.specs.declared.execution.SessionFault.{SessionFault}
-use Rattle.rocks_session.specs.declared.execution.SessionFault.TheVariants as session_fault
+use Rattle.rocks_session.specs.declared.fault.OpenFault.{OpenFault}
+use Rattle.rocks_session.specs.declared.fault.OpenFault.TheVariants as open_fault
+use Rattle.rocks_session.specs.declared.fault.SessionFault.{SessionFault}
+use Rattle.rocks_session.specs.declared.fault.SessionFault.TheVariants as session_fault
 
 abbrev pub opening_fault : device.DeviceError → OpenFault
 opening_fault device_error.Failed = open_fault.DeviceFault
@@ -30,10 +31,10 @@ IsLeastPath path files = (more : List (List ℕ)) × (keys files ≡ path ∷ mo
 
 -- A tree is damaged where the device has a file, and the path is the least one. A fault of the device comes only
 -- where the device has failed since.
-abbrev pub IsOpenFault : Option Files → (faults_before faults_now : ℕ) → OpenFault → Type 0
-IsOpenFault files before now (open_fault.Damaged path) = IfSome files (IsLeastPath path)
-IsOpenFault files before now open_fault.DeviceFault = HasRisen before now
-IsOpenFault files before now open_fault.NoMemory = Unit {0}
+abbrev pub IsOpenFault : (before now : DeviceState) → OpenFault → Type 0
+IsOpenFault before now (open_fault.Damaged path) = IfSome before.files (IsLeastPath path)
+IsOpenFault before now open_fault.DeviceFault = HasRisen before.faults now.faults
+IsOpenFault before now open_fault.NoMemory = Unit {0}
 
 -- A fault of the device or of the shelf comes only where that one has failed since.
 abbrev pub HasCause : (device_before device_now shelf_before shelf_now : ℕ) → SessionFault → Type 0

@@ -1,8 +1,12 @@
 pub use Rattle.rocks_text.specs.Files
+pub use Rattle.rocks_outside.specs.Device
+pub use Rattle.rocks_outside.specs.Shelf
 pub use Rattle.rocks_outside.specs.Told
 pub use Rattle.tree_model.specs.Rock
 pub use Rattle.tree_model.specs.Tree
+pub mod Execute
 pub mod Faults
+pub mod Opened
 pub mod Run
 pub mod Staged
 pub mod Step

@@ -6,11 +6,13 @@ use Rattle.std.specs.Bool.{nat_eq}
 use Rattle.std.specs.Str.{bytes_eq}
 use Rattle.std.specs.FinMap.{get, contains_key}
 use Rattle.rocks_text.specs.Files.{Files}
+use Rattle.rocks_text.specs.Paths.{joined}
 use Rattle.rocks_text.specs.declared.item.Item.{Item}
 use Rattle.rocks_text.specs.declared.item.Kind.TheVariants.{Lua}
 use Rattle.rocks_outside.specs.Shelf.{paths_below}
 use Rattle.tree_model.specs.Rock.{Rock}
 use Rattle.tree_model.specs.Tree.{rockspec_name}
+use Rattle.rocks_session.specs.declared.take.TheConstants.{LONGEST_ROCKSPEC, LONGEST_FILE}
 
 -- NAME-VERSION.rock
 abbrev pub unpacked_folder : (name version : List ℕ) → List ℕ
@@ -18,7 +20,7 @@ unpacked_folder name version = name ++ (codes "-" ++ (version ++ codes ".rock"))
 
 -- a path below that folder
 abbrev pub unpacked_path : (name version path : List ℕ) → List ℕ
-unpacked_path name version path = unpacked_folder name version ++ 47 ∷ path
+unpacked_path name version path = joined (unpacked_folder name version) path
 
 -- the folder's rockspec
 abbrev pub unpacked_rockspec : (name version : List ℕ) → List ℕ
@@ -42,8 +44,8 @@ is_file_within most (Some bytes) = nat_le (length bytes) most
 abbrev pub is_taken : Files → (name version path : List ℕ) → Bool
 is_taken files name version path =
     if bytes_eq path (rockspec_name name version)
-    then is_file_within 262144 (get files (unpacked_path name version path))
-    else starts_with nat_eq path (codes "lua/") && is_file_within 16777216 (get files (unpacked_path name version path))
+    then is_file_within LONGEST_ROCKSPEC (get files (unpacked_path name version path))
+    else starts_with nat_eq path (codes "lua/") && is_file_within LONGEST_FILE (get files (unpacked_path name version path))
 
 -- so can each file of the folder
 abbrev pub is_whole_taken : Files → (name version : List ℕ) → Bool

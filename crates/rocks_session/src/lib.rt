@@ -1,7 +1,10 @@
 //! One run of `rocks`: words to a command, a tree that is opened, the command carried out, and its reply said.
 #![tactic(auto)]
 
+mod add;
 mod execution;
+mod fault;
+pub mod laws;
 mod paths;
 mod reply;
 mod session;
@@ -11,13 +14,11 @@ mod tree;
 mod version;
 mod words;
 
-pub use execution::{SessionFault, execute};
+pub use execution::execute;
+pub use fault::{OpenFault, SessionFault};
 pub use reply::{Refusal, Reply};
 pub use session::run;
 pub use status::Status;
-pub use tree::{OpenFault, Tree, open};
+pub use tree::{Tree, open};
 pub use version::{RockKey, Version};
 pub use words::{Command, RootWords, WordsFault, read_words, roots};
-
-#[cfg(test)]
-mod tests;

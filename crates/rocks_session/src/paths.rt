@@ -1,13 +1,12 @@
 // The paths of an unpacked rock's folder, and the places of its files in a tree.
-ghost use Rattle.std.specs.Prelude.{◌≡◌, ◌++◌, ◌∷◌, IsTrue, IfOk, MatchOption, true, false, codes, drop, string_bytes};
+ghost use Rattle.std.specs.Prelude.{◌≡◌, ◌++◌, IfOk, MatchOption, true, false, codes, drop, string_bytes};
 ghost use Rattle.std.specs.List.{starts_with};
 ghost use Rattle.std.specs.Bool.{nat_eq};
-ghost use Rattle.rocks_text.specs.Texts.{is_file_path};
 ghost use Rattle.tree_model.specs.Tree.{rockspec_name, rockspec_path};
 ghost use Rattle.rocks_session.specs.Unpacked.{unpacked_folder, unpacked_rockspec};
 
 use crate::RockKey;
-use rocks_text::{FilePath, Item, Kind, TextFault, TreePath};
+use rocks_text::{FilePath, Item, Kind, TreePath};
 use std::alloc::{AllocError, Global};
 
 /// `NAME-VERSION.rock`
@@ -17,12 +16,13 @@ pub(crate) fn unpacked_folder(alloc: Global, key: &RockKey) -> Result<FilePath, 
     let name = key.name.as_str();
     let version = key.version.as_str();
     let text = format!(in alloc; "{name}-{version}.rock")?;
-    file_path(alloc, &text)
+    FilePath::known(alloc, &text)
 }
 
 /// `NAME-VERSION.rockspec`
 pub(crate) fn rockspec_name(alloc: Global, key: &RockKey) -> Result<String, AllocError>
-    ensures { IfOk result (λ text. string_bytes text ≡ rockspec_name key.now.name key.now.version) }
+    ensures { IfOk result
+        (λ text. string_bytes text ≡ rockspec_name key.now.name key.now.version) }
 {
     tree_model::rockspec_name(alloc, key.name.as_str(), key.version.as_str())
 }
@@ -34,17 +34,7 @@ pub(crate) fn unpacked_rockspec(alloc: Global, key: &RockKey) -> Result<FilePath
     let name = key.name.as_str();
     let version = key.version.as_str();
     let text = format!(in alloc; "{name}-{version}.rock/{name}-{version}.rockspec")?;
-    file_path(alloc, &text)
-}
-
-/// A path below a folder.
-pub(crate) fn below(alloc: Global, folder: &FilePath, path: &str) -> Result<FilePath, AllocError>
-    requires { IsTrue (is_file_path (folder.now ++ 47 ∷ path.now)) }
-    ensures { IfOk result (λ whole. whole ≡ folder.now ++ 47 ∷ path.now) }
-{
-    let folder = folder.as_str();
-    let text = format!(in alloc; "{folder}/{path}")?;
-    file_path(alloc, &text)
+    FilePath::known(alloc, &text)
 }
 
 /// The place of the rockspec in a tree.
@@ -56,33 +46,25 @@ pub(crate) fn rockspec_place(alloc: Global, key: &RockKey) -> Result<TreePath, A
 
 /// The place in a tree of a module with a path below `lua/`, or `None` for another path.
 pub(crate) fn module_place(alloc: Global, path: &FilePath) -> Result<Option<TreePath>, AllocError>
-    ensures { IfOk result (λ place. MatchOption place (starts_with nat_eq path.now (codes "lua/") ≡ false)
-        (λ place. (starts_with nat_eq path.now (codes "lua/") ≡ true) × (place ≡ codes "share/lua/5.4/" ++ drop 4 path.now))) }
+    ensures { IfOk result (λ place. MatchOption place
+        (starts_with nat_eq path.now (codes "lua/") ≡ false)
+        (λ place. (starts_with nat_eq path.now (codes "lua/") ≡ true)
+        × (place ≡ codes "share/lua/5.4/" ++ drop 4 path.now))) }
 {
     let Some(rest) = module_path(path.as_str()) else {
         return Ok(None);
     };
     let item = Item {
         kind: Kind::Lua,
-        path: file_path(alloc, rest)?,
+        path: FilePath::known(alloc, rest)?,
     };
-    Ok(Some(tree_model::plain(alloc, &item)?))
+    Ok(Some(tree_paths::plain(alloc, &item)?))
 }
 
 fn module_path(path: &str) -> Option<&str>
     ensures { MatchOption result (starts_with nat_eq path.now (codes "lua/") ≡ false)
-        (λ rest. (starts_with nat_eq path.now (codes "lua/") ≡ true) × (path.now ≡ codes "lua/" ++ rest.now)) }
+        (λ rest. (starts_with nat_eq path.now (codes "lua/") ≡ true)
+        × (path.now ≡ codes "lua/" ++ rest.now)) }
 {
     path.strip_prefix("lua/")
-}
-
-fn file_path(alloc: Global, text: &str) -> Result<FilePath, AllocError>
-    requires { IsTrue (is_file_path text.now) }
-    ensures { IfOk result (λ path. path ≡ text.now) }
-{
-    match FilePath::from_text(alloc, text) {
-        Ok(path) => Ok(path),
-        Err(TextFault::NoMemory) => Err(AllocError),
-        Err(_) => unreachable!(),
-    }
 }

@@ -2,6 +2,7 @@ ghost use Rattle.std.specs.Prelude.{◌≡◌, ◌++◌, codes, IfOk};
 ghost use Rattle.rocks_session.specs.Step.{refusal_text, added_text, key_text};
 
 use crate::RockKey;
+use rocks_bytes::Bytes;
 use std::alloc::{AllocError, Global};
 
 /// Why a command was refused. A refused command changes no file.
@@ -22,33 +23,34 @@ pub struct Reply {
     /// Why the command was refused, if it was.
     pub refusal: Option<Refusal>,
     /// The lines that are said.
-    pub text: Vec<u8>,
+    pub text: Bytes,
 }
 
 /// The reply that adds a rock.
-pub(crate) fn added_text(alloc: Global, key: &RockKey) -> Result<Vec<u8>, AllocError>
-    ensures { IfOk result (λ text. text.items ≡ added_text key.now) }
+pub(crate) fn added_text(alloc: Global, key: &RockKey) -> Result<Bytes, AllocError>
+    ensures { IfOk result (λ text. text ≡ added_text key.now) }
 {
     let name = key.name.as_str();
     let version = key.version.as_str();
-    Ok(format!(in alloc; "+ {name} {version}\nok\n")?.into_bytes())
+    Ok(Bytes::from(format!(in alloc; "+ {name} {version}\nok\n")?.into_bytes()))
 }
 
 /// The reply of a refused command.
-pub(crate) fn refusal_text(alloc: Global, refusal: &Refusal) -> Result<Vec<u8>, AllocError>
-    ensures { IfOk result (λ text. text.items ≡ refusal_text refusal.now) }
+pub(crate) fn refusal_text(alloc: Global, refusal: &Refusal) -> Result<Bytes, AllocError>
+    ensures { IfOk result (λ text. text ≡ refusal_text refusal.now) }
 {
     match refusal {
-        Refusal::Provided => Ok(b"refused Provided\n".to_vec(alloc)?),
+        Refusal::Provided => Ok(Bytes::from(b"refused Provided\n".to_vec(alloc)?)),
         Refusal::NoRock { key } => refused_key(alloc, "NoRock", key),
         Refusal::NotServed { key } => refused_key(alloc, "NotServed", key),
     }
 }
 
-fn refused_key(alloc: Global, code: &str, key: &RockKey) -> Result<Vec<u8>, AllocError>
-    ensures { IfOk result (λ text. text.items ≡ codes "refused " ++ code.now ++ codes " " ++ key_text key.now ++ codes "\n") }
+fn refused_key(alloc: Global, code: &str, key: &RockKey) -> Result<Bytes, AllocError>
+    ensures { IfOk result (λ text. text
+        ≡ codes "refused " ++ code.now ++ codes " " ++ key_text key.now ++ codes "\n") }
 {
     let name = key.name.as_str();
     let version = key.version.as_str();
-    Ok(format!(in alloc; "refused {code} {name} {version}\n")?.into_bytes())
+    Ok(Bytes::from(format!(in alloc; "refused {code} {name} {version}\n")?.into_bytes()))
 }

@@ -1,9 +1,9 @@
-ghost use Rattle.std.specs.Prelude.{◌≡◌, ◌⊎◌, [], map, IfSome, IsErr, Ok, string_bytes};
+ghost use Rattle.std.specs.Prelude.{◌≡◌, ◌⊎◌, List, map, IfSome, IsErr, Ok, Some, string_bytes};
 ghost use Rattle.rocks_outside.specs.Counts.{HasRisen};
-ghost use Rattle.tree_model.specs.Tree.{tree_of};
+ghost use Rattle.tree_model.specs.Rock.{Rock};
 ghost use Rattle.rocks_session.specs.Faults.{IsLeastPath};
-ghost use Rattle.rocks_session.specs.Run.{HasRun, HasRunUnless, CarriesOut, SaysAtMost};
-ghost use Rattle.rocks_session.specs.Step.{step};
+ghost use Rattle.rocks_session.specs.Opened.{Opens};
+ghost use Rattle.rocks_session.specs.Run.{HasRun, HasRunUnless, Runs, IsUntouched, SaysAtMost};
 ghost use Rattle.rocks_session.specs.Words.{command_of};
 
 use crate::{Command, OpenFault, SessionFault, Status, WordsFault, execute, open, read_words};
@@ -25,29 +25,48 @@ pub fn run<V: Device, F: Shelf, I: Source>(
     input: &mut I,
 ) -> Status
     // Where the command was carried out, what was said is the model's reply, and the files are the tree of its set.
-    ensures carried { HasRun result → (command : Command) × (command_of (map string_bytes words.now) ≡ Ok command)
-        × IfSome (F.holds shelf.old) (λ servers. CarriesOut (step servers [] command) result (V.files device.old) (V.files device.new) (V.said device.old) (V.said device.new)) }
-    ensures opened { HasRun result → IfSome (V.files device.old) (λ files. files ≡ tree_of []) }
-    ensures refused { result ≡ Status.Refused → V.files device.new ≡ V.files device.old }
+    ensures carried { HasRun result → (command : Command)
+        × (command_of (map string_bytes words.now) ≡ Ok command)
+        × ((set : List Rock) → Opens (V.state device.old).files set
+        → Runs command set (F.state shelf.old).holds result
+        (V.state device.old) (V.state device.new)) }
+    ensures opened { HasRun result → (set : List Rock) × Opens (V.state device.old).files set }
+    ensures refused { result ≡ Status.Refused
+        → (V.state device.new).files ≡ (V.state device.old).files }
 
-    // Words that say a command, an empty tree and objects that don't fail are enough, but for memory.
-    ensures complete { (command : Command) → command_of (map string_bytes words.now) ≡ Ok command
-        → IfSome (V.files device.old) (λ files. files ≡ tree_of [] → HasRunUnless (HasRisen (V.faults device.old) (V.faults device.new)) (HasRisen (F.faults shelf.old) (F.faults shelf.new)) result) }
+    // Words that say a command, a tree that opens and objects that don't fail are enough, but for memory.
+    ensures complete { (command : Command) (set : List Rock)
+        → command_of (map string_bytes words.now) ≡ Ok command
+        → IfSome (V.state device.old).files (λ files. Opens (Some files) set
+        → HasRunUnless (HasRisen (V.state device.old).faults (V.state device.new).faults)
+        (HasRisen (F.state shelf.old).faults (F.state shelf.new).faults) result) }
 
     // Each other status has its cause.
-    ensures bad_words { result ≡ Status.BadWords → IsErr (command_of (map string_bytes words.now)) }
-    ensures damaged { (path : TreePath) → result ≡ Status.Damaged path → IfSome (V.files device.old) (IsLeastPath path) }
-    ensures device_fault { result ≡ Status.DeviceFault → HasRisen (V.faults device.old) (V.faults device.new) }
-    ensures shelf_fault { result ≡ Status.ShelfFault → HasRisen (F.faults shelf.old) (F.faults shelf.new) }
+    ensures bad_words { result ≡ Status.BadWords
+        → IsErr (command_of (map string_bytes words.now)) }
+    ensures damaged { (path : TreePath) → result ≡ Status.Damaged path
+        → IfSome (V.state device.old).files (IsLeastPath path) }
+    ensures device_fault { result ≡ Status.DeviceFault
+        → HasRisen (V.state device.old).faults (V.state device.new).faults }
+    ensures shelf_fault { result ≡ Status.ShelfFault
+        → HasRisen (F.state shelf.old).faults (F.state shelf.new).faults }
 
-    // Faulty words come first, and nothing is called; a damaged tree is left as it is.
-    ensures words_first { IsErr (command_of (map string_bytes words.now)) → (result ≡ Status.BadWords) ⊎ (result ≡ Status.NoMemory) }
-    ensures not_called { IsErr (command_of (map string_bytes words.now)) → (device.new ≡ device.old) × (shelf.new ≡ shelf.old) }
-    ensures left { (path : TreePath) → result ≡ Status.Damaged path → (V.files device.new ≡ V.files device.old) × (V.said device.new ≡ V.said device.old) }
+    // Faulty words come first, and nothing is called. A damaged tree is left as it is, and no server is asked; a server
+    // that failed was asked for a tree that opens, which is left too.
+    ensures words_first { IsErr (command_of (map string_bytes words.now))
+        → (result ≡ Status.BadWords) ⊎ (result ≡ Status.NoMemory) }
+    ensures not_called { IsErr (command_of (map string_bytes words.now))
+        → (device.new ≡ device.old) × (shelf.new ≡ shelf.old) }
+    ensures left_damaged { (path : TreePath) → result ≡ Status.Damaged path
+        → IsUntouched (V.state device.old) (V.state device.new) × (shelf.new ≡ shelf.old) }
+    ensures left_by_servers { result ≡ Status.ShelfFault
+        → IsUntouched (V.state device.old) (V.state device.new)
+        × ((set : List Rock) × Opens (V.state device.old).files set) }
 
     // Whatever the status, no more was said than a first part of the model's reply.
-    ensures said { SaysAtMost (command_of (map string_bytes words.now)) (F.holds shelf.old) (V.said device.old) (V.said device.new) }
-    ensures holds { F.holds shelf.new ≡ F.holds shelf.old }
+    ensures said { SaysAtMost (command_of (map string_bytes words.now)) (F.state shelf.old).holds
+        (V.state device.old) (V.state device.new) }
+    ensures holds { (F.state shelf.new).holds ≡ (F.state shelf.old).holds }
     ensures input { input.new ≡ input.old }
 {
     let _ = input;
@@ -68,7 +87,7 @@ pub fn run<V: Device, F: Shelf, I: Source>(
         Err(SessionFault::ShelfFault) => return Status::ShelfFault,
         Err(SessionFault::NoMemory) => return Status::NoMemory,
     };
-    match device.say(&reply.text) {
+    match device.say(reply.text.as_slice()) {
         Ok(()) if reply.refusal.is_some() => Status::Refused,
         Ok(()) => Status::Done,
         Err(DeviceError::Failed) => Status::DeviceFault,

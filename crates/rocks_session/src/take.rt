@@ -1,21 +1,19 @@
 // Reads the rock of an unpacked rock's folder from the shelf.
-ghost use Rattle.std.specs.Prelude.{◌≡◌, ◌≤◌, ◌<◌, ◌∷◌, ◌++◌, IsTrue, IfOk, IfErr, IfSome, Some, true, false, List, ℕ, [], slice_get, codes, drop, string_bytes};
+ghost use Rattle.std.specs.Prelude.{◌≡◌, ◌<◌, ◌∷◌, ◌++◌, [], ℕ, List, IsTrue, IfOk, IfSome};
+ghost use Rattle.std.specs.Prelude.{true, false, codes, drop};
 ghost use Rattle.std.specs.List.{starts_with};
 ghost use Rattle.std.specs.Bool.{nat_eq};
-ghost use Rattle.std.specs.FinMap.{get};
-ghost use Rattle.rocks_text.specs.Files.{Files};
+ghost use Rattle.rocks_text.specs.Paths.{joined};
 ghost use Rattle.rocks_text.specs.Texts.{is_file_path};
 ghost use Rattle.rocks_outside.specs.Shelf.{held_at};
-ghost use Rattle.rocks_session.specs.Faults.{IsShelfFault};
-ghost use Rattle.rocks_session.specs.Staged.{IsSound, IsOffer, IsFolderOffer, IsFoundIn, IsServer, IsModule, AreTaken, IsNotTaken};
-ghost use Rattle.rocks_session.specs.Unpacked.{unpacked_folder, unpacked_rockspec, is_file_within};
-ghost use Rattle.tree_model.specs.Tree.{rockspec_name};
+ghost use Rattle.rocks_session.specs.Staged.{Asks, IsSound, IsOffer, FolderOffers, IsFoundIn};
+ghost use Rattle.rocks_session.specs.Staged.{IsServer, IsModule, IsFolderOfKey, AreTaken, IsNotTaken};
 
-use crate::RockKey;
-use crate::execution::SessionFault;
 use crate::paths::{
-    below, module_place, rockspec_name, rockspec_place, unpacked_folder, unpacked_rockspec,
+    module_place, rockspec_name, rockspec_place, unpacked_folder, unpacked_rockspec,
 };
+use crate::{RockKey, SessionFault};
+use rocks_bytes::Bytes;
 use rocks_outside::{Shelf, ShelfRead};
 use rocks_text::{FilePath, TreePath};
 use std::alloc::Global;
@@ -30,7 +28,7 @@ const LONGEST_FILE: u32 = 16_777_216;
 #[derive(Debug, Drop)]
 pub(crate) struct Staged {
     pub at: TreePath,
-    pub bytes: Vec<u8>,
+    pub bytes: Bytes,
 }
 
 /// What the servers offer for a key.
@@ -49,7 +47,7 @@ pub(crate) enum Offer {
 enum Found {
     Nowhere,
     TooLong,
-    At(u32, Vec<u8>),
+    At(u32, Bytes),
 }
 
 /// An unpacked rock's folder: its server, its path there, and the name of its rockspec.
@@ -68,11 +66,9 @@ pub(crate) fn take<F: Shelf>(
     key: &RockKey,
 ) -> Result<Offer, SessionFault>
     ensures sound { IfOk result (IsSound key.now) }
-    ensures offer { IfOk result (λ offer. IfSome (F.holds shelf.old) (λ servers. IsOffer servers key.now offer)) }
-    ensures fault { IfErr result (IsShelfFault (F.faults shelf.old) (F.faults shelf.new)) }
-    ensures holds { F.holds shelf.new ≡ F.holds shelf.old }
-    ensures server_count { F.server_count shelf.new ≡ F.server_count shelf.old }
-    ensures faults { F.faults shelf.old ≤ F.faults shelf.new }
+    ensures offer { IfOk result (λ offer. IfSome (F.state shelf.old).holds
+        (λ servers. IsOffer servers key.now offer)) }
+    ensures asks { Asks result (F.state shelf.old) (F.state shelf.new) }
 {
     let rockspec = unpacked_rockspec(alloc, key)?;
     match find(alloc, shelf, &rockspec)? {
@@ -84,12 +80,10 @@ pub(crate) fn take<F: Shelf>(
 
 // The rockspec on the earliest server that has it.
 fn find<F: Shelf>(alloc: Global, shelf: &mut F, path: &FilePath) -> Result<Found, SessionFault>
-    ensures found { IfOk result (λ found. IfSome (F.holds shelf.old) (λ servers. IsFoundIn servers path.now found)) }
-    ensures server { IfOk result (IsServer (F.server_count shelf.old)) }
-    ensures fault { IfErr result (IsShelfFault (F.faults shelf.old) (F.faults shelf.new)) }
-    ensures holds { F.holds shelf.new ≡ F.holds shelf.old }
-    ensures server_count { F.server_count shelf.new ≡ F.server_count shelf.old }
-    ensures faults { F.faults shelf.old ≤ F.faults shelf.new }
+    ensures found { IfOk result (λ found. IfSome (F.state shelf.old).holds
+        (λ servers. IsFoundIn servers path.now found)) }
+    ensures server { IfOk result (IsServer (F.state shelf.old).servers) }
+    ensures asks { Asks result (F.state shelf.old) (F.state shelf.new) }
 {
     let servers = shelf.servers();
     for server in 0..servers {
@@ -108,18 +102,13 @@ fn take_folder<F: Shelf>(
     shelf: &mut F,
     server: u32,
     key: &RockKey,
-    rockspec: Vec<u8>,
+    rockspec: Bytes,
 ) -> Result<Offer, SessionFault>
-    requires { server < F.server_count shelf.old }
+    requires { server < (F.state shelf.old).servers }
     ensures sound { IfOk result (IsSound key.now) }
-    ensures offer { IfOk result (λ offer. IfSome (F.holds shelf.old) (λ servers. (files : Files) → slice_get servers server ≡ Some files
-        → get files (unpacked_rockspec key.now.name key.now.version) ≡ Some rockspec.items
-        → is_file_within 262144 (get files (unpacked_rockspec key.now.name key.now.version)) ≡ true
-        → IsFolderOffer files key.now offer)) }
-    ensures fault { IfErr result (IsShelfFault (F.faults shelf.old) (F.faults shelf.new)) }
-    ensures holds { F.holds shelf.new ≡ F.holds shelf.old }
-    ensures server_count { F.server_count shelf.new ≡ F.server_count shelf.old }
-    ensures faults { F.faults shelf.old ≤ F.faults shelf.new }
+    ensures offer { IfOk result (λ offer.
+        FolderOffers key.now server rockspec offer (F.state shelf.old).holds) }
+    ensures asks { Asks result (F.state shelf.old) (F.state shelf.new) }
 {
     let folder = Folder {
         server,
@@ -148,19 +137,16 @@ fn take_file<F: Shelf>(
     path: &FilePath,
     staged: &mut Vec<Staged>,
 ) -> Result<bool, SessionFault>
-    requires server { folder.now.server < F.server_count shelf.old }
-    requires path { IsTrue (is_file_path (folder.now.path ++ 47 ∷ path.now)) }
+    requires server { folder.now.server < (F.state shelf.old).servers }
+    requires path { IsTrue (is_file_path (joined folder.now.path path.now)) }
     ensures taken { (key : RockKey) (spec : List ℕ) (front : List (List ℕ))
-        → folder.now.path ≡ unpacked_folder key.name key.version → string_bytes folder.now.rockspec ≡ rockspec_name key.name key.version
-        → result ≡ Ok true → AreTaken key spec (F.holds shelf.old) folder.now.server front staged.old.items
-        → AreTaken key spec (F.holds shelf.old) folder.now.server (front ++ path.now ∷ []) staged.new.items }
-    ensures refused { (key : RockKey)
-        → folder.now.path ≡ unpacked_folder key.name key.version → string_bytes folder.now.rockspec ≡ rockspec_name key.name key.version
-        → result ≡ Ok false → IsNotTaken key (F.holds shelf.old) folder.now.server path.now }
-    ensures fault { IfErr result (IsShelfFault (F.faults shelf.old) (F.faults shelf.new)) }
-    ensures holds { F.holds shelf.new ≡ F.holds shelf.old }
-    ensures server_count { F.server_count shelf.new ≡ F.server_count shelf.old }
-    ensures faults { F.faults shelf.old ≤ F.faults shelf.new }
+        → IsFolderOfKey key folder.now → result ≡ Ok true
+        → AreTaken key spec (F.state shelf.old).holds folder.now.server front staged.old.items
+        → AreTaken key spec (F.state shelf.old).holds folder.now.server
+        (front ++ path.now ∷ []) staged.new.items }
+    ensures refused { (key : RockKey) → IsFolderOfKey key folder.now → result ≡ Ok false
+        → IsNotTaken key (F.state shelf.old).holds folder.now.server path.now }
+    ensures asks { Asks result (F.state shelf.old) (F.state shelf.new) }
 {
     if path.as_str() == folder.rockspec.as_str() {
         return Ok(true);
@@ -180,20 +166,20 @@ fn take_module<F: Shelf>(
     folder: &FilePath,
     path: &FilePath,
 ) -> Result<Option<Staged>, SessionFault>
-    requires server { server < F.server_count shelf.old }
-    requires path { IsTrue (is_file_path (folder.now ++ 47 ∷ path.now)) }
-    ensures place { IfOk result (λ file. IfSome file (λ staged. staged.at ≡ codes "share/lua/5.4/" ++ drop 4 path.now)) }
-    ensures lua { IfOk result (λ file. IfSome file (λ staged. IsTrue (starts_with nat_eq path.now (codes "lua/")))) }
-    ensures file { IfOk result (λ file. IfSome (F.holds shelf.old) (λ servers. IsModule path.now (held_at servers server (folder.now ++ 47 ∷ path.now)) file)) }
-    ensures fault { IfErr result (IsShelfFault (F.faults shelf.old) (F.faults shelf.new)) }
-    ensures holds { F.holds shelf.new ≡ F.holds shelf.old }
-    ensures server_count { F.server_count shelf.new ≡ F.server_count shelf.old }
-    ensures faults { F.faults shelf.old ≤ F.faults shelf.new }
+    requires server { server < (F.state shelf.old).servers }
+    requires path { IsTrue (is_file_path (joined folder.now path.now)) }
+    ensures place { IfOk result (λ file. IfSome file
+        (λ staged. staged.at ≡ codes "share/lua/5.4/" ++ drop 4 path.now)) }
+    ensures lua { IfOk result (λ file. IfSome file
+        (λ staged. IsTrue (starts_with nat_eq path.now (codes "lua/")))) }
+    ensures file { IfOk result (λ file. IfSome (F.state shelf.old).holds (λ servers.
+        IsModule path.now (held_at servers server (joined folder.now path.now)) file)) }
+    ensures asks { Asks result (F.state shelf.old) (F.state shelf.new) }
 {
     let Some(at) = module_place(alloc, path)? else {
         return Ok(None);
     };
-    let whole = below(alloc, folder, path.as_str())?;
+    let whole = FilePath::joined(alloc, folder, path.as_str())?;
     match shelf.read(alloc, server, &whole, LONGEST_FILE)? {
         ShelfRead::Bytes(bytes) => Ok(Some(Staged { at, bytes })),
         _ => Ok(None),

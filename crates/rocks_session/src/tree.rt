@@ -1,10 +1,11 @@
-ghost use Rattle.std.specs.Prelude.{◌≡◌, ◌≤◌, [], ◌∷◌, ◌++◌, IfOk, IfErr, IfSome, OnOk, OnErr};
+ghost use Rattle.std.specs.Prelude.{◌≡◌, ◌≤◌, List, [], ◌∷◌, ◌++◌, IfOk, IfErr, OnOk, OnErr};
+ghost use Rattle.tree_model.specs.Rock.{Rock};
 ghost use Rattle.rocks_session.specs.Faults.{IsOpenFault};
-ghost use Rattle.tree_model.specs.Tree.{tree_of};
+ghost use Rattle.rocks_session.specs.Opened.{Opens, IsTreeOf, IsOpenAs};
+ghost use Rattle.rocks_session.specs.Run.{IsUntouched};
 
-use crate::RockKey;
-use rocks_outside::{Device, DeviceError};
-use rocks_text::TreePath;
+use crate::{OpenFault, RockKey};
+use rocks_outside::Device;
 use std::alloc::{AllocError, Global};
 use std::marker::Model;
 
@@ -33,43 +34,17 @@ impl Tree {
     }
 }
 
-/// Why a tree wasn't opened.
-#[derive(Debug, Drop)]
-pub enum OpenFault {
-    /// The files are those of no set of rocks. The path is the least that shows it.
-    Damaged(TreePath),
-    /// The device failed.
-    DeviceFault,
-    /// Memory ran out.
-    NoMemory,
-}
-
-impl From<DeviceError> for OpenFault {
-    ghost use Rattle.std.specs.Prelude.{◌≡◌};
-    ghost use Rattle.rocks_session.specs.Faults.{opening_fault};
-
-    ghost from_gives = { λ error fault. fault ≡ opening_fault error };
-
-    fn from(error: DeviceError) -> OpenFault {
-        match error {
-            DeviceError::Failed => OpenFault::DeviceFault,
-            DeviceError::NoMemory => OpenFault::NoMemory,
-        }
-    }
-}
-
 /// Opens a tree. Until the records of rocks are written, only the empty tree can be opened again.
 ///
 /// `Damaged` exactly where the device has a file, with the least path; `DeviceFault` only where the device failed;
 /// `NoMemory` where memory runs out. Nothing is changed.
 pub fn open<V: Device>(alloc: Global, device: &mut V) -> Result<Tree, OpenFault>
-    ensures set { IfOk result (λ tree. tree ≡ []) }
-    ensures tree { OnOk result (IfSome (V.files device.old) (λ files. files ≡ tree_of [])) }
-    ensures fault { IfErr result (IsOpenFault (V.files device.old) (V.faults device.old) (V.faults device.new)) }
-    ensures files { V.files device.new ≡ V.files device.old }
-    ensures said { V.said device.new ≡ V.said device.old }
-    ensures clock { V.clock device.new ≡ V.clock device.old }
-    ensures faults { V.faults device.old ≤ V.faults device.new }
+    ensures set { IfOk result (λ tree. (set : List Rock) × IsOpenAs set tree (V.state device.new)) }
+    ensures only { IfOk result (λ tree. (set : List Rock)
+        → Opens (V.state device.old).files set → IsTreeOf set tree) }
+    ensures fault { IfErr result (IsOpenFault (V.state device.old) (V.state device.new)) }
+    ensures left { IsUntouched (V.state device.old) (V.state device.new) }
+    ensures faults { (V.state device.old).faults ≤ (V.state device.new).faults }
 {
     let mut paths = device.list(alloc, "")?;
     if paths.is_empty() {

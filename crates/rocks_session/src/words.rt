@@ -1,9 +1,14 @@
-ghost use Rattle.std.specs.Prelude.{◌≡◌, ◌+◌, ◌*◌, ◌||◌, length, map, IfOk, IsOk, MatchResult, string_bytes};
+ghost use Rattle.std.specs.Prelude.{◌≡◌, ◌+◌, ◌*◌, ◌||◌, length, map, IfOk, IsOk, MatchResult};
+ghost use Rattle.std.specs.Prelude.{string_bytes};
 ghost use Rattle.std.specs.List.{list_any};
-ghost use Rattle.rocks_session.specs.Words.{command_of, rooted, from_folders, after_from, command_in, add_name, add_version, is_tree_flag, is_from_flag, IsFaultOf, RootsAre};
+ghost use Rattle.rocks_session.specs.Words.{command_of, rooted, from_folders, after_from, command_in};
+ghost use Rattle.rocks_session.specs.Words.{add_name, add_version, is_tree_flag, is_from_flag};
+ghost use Rattle.rocks_session.specs.Words.{IsFaultOf, RootsAre};
 
 use crate::{RockKey, Version};
+use rocks_bytes::Text;
 use rocks_text::{Name, TextFault};
+use sqlite_items::Items;
 use std::alloc::{AllocError, Global};
 
 /// The most servers of one command line.
@@ -19,8 +24,35 @@ pub enum Command {
 /// Where a command works: the tree's folder and the servers' folders, in their order.
 #[derive(Debug, Drop)]
 pub struct RootWords {
-    pub tree: String,
-    pub servers: Vec<String>,
+    pub tree: Text,
+    pub servers: Items<Text>,
+}
+
+impl Command {
+    /// An equal command. The only error is want of memory.
+    pub fn copy(&self, alloc: Global) -> Result<Command, AllocError>
+        ensures { IfOk result (λ copied. copied ≡ self.now) }
+    {
+        match self {
+            Command::Add(key) => Ok(Command::Add(key.copy(alloc)?)),
+        }
+    }
+}
+
+impl RootWords {
+    /// An equal value. The only error is want of memory.
+    pub fn copy(&self, alloc: Global) -> Result<RootWords, AllocError>
+        ensures { IfOk result (λ copied. copied ≡ self.now) }
+    {
+        let mut servers = Items::new(alloc);
+        for server in self.servers.as_slice() {
+            servers.push(server.copy(alloc)?)?;
+        }
+        Ok(RootWords {
+            tree: self.tree.copy(alloc)?,
+            servers,
+        })
+    }
 }
 
 /// Why words say no command.
@@ -63,7 +95,8 @@ pub fn read_words(alloc: Global, words: &[String]) -> Result<Command, WordsFault
 ///
 /// It refuses what `read_words` refuses, for the same fault, and nothing else; `NoMemory` where memory runs out.
 pub fn roots(alloc: Global, words: &[String]) -> Result<RootWords, WordsFault>
-    ensures ok { IfOk result (λ roots. RootsAre (rooted (map string_bytes words.now)) (string_bytes roots.tree) (map string_bytes roots.servers.items)) }
+    ensures ok { IfOk result (λ roots.
+        RootsAre (rooted (map string_bytes words.now)) roots.tree roots.servers) }
     ensures same { MatchResult result
         (λ _. IsOk (command_of (map string_bytes words.now)))
         (IsFaultOf (command_of (map string_bytes words.now))) }
@@ -71,7 +104,7 @@ pub fn roots(alloc: Global, words: &[String]) -> Result<RootWords, WordsFault>
     let (tree, from, command) = rooted(words)?;
     command_in(alloc, command)?;
     Ok(RootWords {
-        tree: tree.clone()?,
+        tree: Text::from(tree.clone()?),
         servers: from_folders(alloc, from)?,
     })
 }
@@ -102,7 +135,8 @@ fn rooted(words: &[String]) -> Result<(&String, &[String], &[String]), WordsFaul
 }
 
 fn has_option(words: &[String]) -> bool
-    ensures { result ≡ list_any (λ word. is_tree_flag word || is_from_flag word) (map string_bytes words.now) }
+    ensures { result
+        ≡ list_any (λ word. is_tree_flag word || is_from_flag word) (map string_bytes words.now) }
 {
     for word in words {
         if is_option(word) {
@@ -113,14 +147,16 @@ fn has_option(words: &[String]) -> bool
 }
 
 fn is_option(word: &String) -> bool
-    ensures { result ≡ (is_tree_flag (string_bytes word.now) || is_from_flag (string_bytes word.now)) }
+    ensures { result
+        ≡ (is_tree_flag (string_bytes word.now) || is_from_flag (string_bytes word.now)) }
 {
     word.as_str() == "--tree" || word.as_str() == "--from"
 }
 
 fn after_from(words: &[String]) -> &[String]
     ensures rest { map string_bytes result.now ≡ after_from (map string_bytes words.now) }
-    ensures count { 2 * length (from_folders (map string_bytes words.now)) + length result.now ≡ length words.now }
+    ensures count { 2 * length (from_folders (map string_bytes words.now)) + length result.now
+        ≡ length words.now }
 {
     let mut rest = words;
     while let [flag, _, after @ ..] = rest {
@@ -132,16 +168,16 @@ fn after_from(words: &[String]) -> &[String]
     rest
 }
 
-fn from_folders(alloc: Global, words: &[String]) -> Result<Vec<String>, AllocError>
-    ensures { IfOk result (λ folders. map string_bytes folders.items ≡ from_folders (map string_bytes words.now)) }
+fn from_folders(alloc: Global, words: &[String]) -> Result<Items<Text>, AllocError>
+    ensures { IfOk result (λ folders. folders ≡ from_folders (map string_bytes words.now)) }
 {
-    let mut folders = Vec::new(alloc);
+    let mut folders = Items::new(alloc);
     let mut rest = words;
     while let [flag, folder, after @ ..] = rest {
         if flag.as_str() != "--from" {
             return Ok(folders);
         }
-        folders.push(folder.clone()?)?;
+        folders.push(Text::from(folder.clone()?))?;
         rest = after;
     }
     Ok(folders)

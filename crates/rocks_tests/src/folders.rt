@@ -1,8 +1,10 @@
 //! The real objects over real folders. Each test has a folder of its own, named after it.
 
+use rocks_bytes::Text;
 use rocks_folders::{FolderDevice, FolderShelf, StdSource};
 use rocks_outside::{Device, DeviceError, Shelf, ShelfError, ShelfRead, Source};
 use rocks_text::{FilePath, TreePath};
+use sqlite_items::Items;
 use std::alloc::Global;
 use std::fs;
 use std::os::unix::fs::symlink;
@@ -25,6 +27,10 @@ fn fresh(rt: &HostRuntime, folder: &str) -> Result<(), Fail> {
     }
     fs::create_dir(rt, folder)?;
     Ok(())
+}
+
+fn text(alloc: Global, text: &str) -> Result<Text, Fail> {
+    Ok(Text::from(String::from_str(alloc, text)?))
 }
 
 fn tree_path(alloc: Global, text: &str) -> Result<TreePath, Fail> {
@@ -62,7 +68,7 @@ fn files<D: Device>(alloc: Global, device: &mut D, prefix: &str) -> Result<Strin
 fn a_real_tree_keeps_what_is_written(rt: HostRuntime) -> Result<(), Fail> {
     let alloc = rt.alloc();
     fresh(&rt, "written")?;
-    let mut device = FolderDevice::new(rt, String::from_str(alloc, "written/far/tree/")?);
+    let mut device = FolderDevice::new(rt, text(alloc, "written/far/tree/")?);
     assert_eq!(rt; files(alloc, &mut device, "")?.as_str(), "");
     // A call, whether it is done, and the files after it.
     for (step, done, told) in [
@@ -108,7 +114,7 @@ fn a_real_tree_keeps_what_is_written(rt: HostRuntime) -> Result<(), Fail> {
 fn folders_that_become_empty_go_and_the_tree_stays(rt: HostRuntime) -> Result<(), Fail> {
     let alloc = rt.alloc();
     fresh(&rt, "emptied")?;
-    let mut device = FolderDevice::new(rt, String::from_str(alloc, "emptied/tree")?);
+    let mut device = FolderDevice::new(rt, text(alloc, "emptied/tree")?);
     // A call, the folders that stand after it, and those that don't.
     for (step, stand, gone) in [
         (
@@ -152,7 +158,7 @@ fn told(alloc: Global, read: Result<ShelfRead, ShelfError>) -> Result<String, Fa
     Ok(match read {
         Ok(ShelfRead::Absent) => String::from_str(alloc, "absent")?,
         Ok(ShelfRead::TooLong) => String::from_str(alloc, "too long")?,
-        Ok(ShelfRead::Bytes(bytes)) => String::from_str(alloc, str::from_utf8(&bytes)?)?,
+        Ok(ShelfRead::Bytes(bytes)) => String::from_str(alloc, str::from_utf8(bytes.as_slice())?)?,
         Err(_) => String::from_str(alloc, "fault")?,
     })
 }
@@ -201,9 +207,9 @@ fn real_shelf(rt: HostRuntime) -> Result<FolderShelf<HostRuntime>, Fail> {
     ] {
         fs::write(&rt, path, bytes)?;
     }
-    let mut roots = Vec::new(alloc);
+    let mut roots = Items::new(alloc);
     for root in ["served/one", "served/two/", "served/three"] {
-        roots.push(String::from_str(alloc, root)?)?;
+        roots.push(text(alloc, root)?)?;
     }
     Ok(FolderShelf::new(rt, roots))
 }
@@ -259,7 +265,7 @@ fn no_link_below_a_root_is_followed(rt: HostRuntime) -> Result<(), Fail> {
     }
     fs::write(&rt, "linked/outside/a", "1")?;
     symlink(&rt, "../outside", "linked/tree/link")?;
-    let mut device = FolderDevice::new(rt, String::from_str(alloc, "linked/tree")?);
+    let mut device = FolderDevice::new(rt, text(alloc, "linked/tree")?);
     for step in [
         Call::Write("link/b", "2"),
         Call::Write("link", "2"),
@@ -274,9 +280,9 @@ fn no_link_below_a_root_is_followed(rt: HostRuntime) -> Result<(), Fail> {
     assert!(rt; !fs::exists(&rt, "linked/outside/b")?);
 
     // A root may be a link, also one that stands below another root.
-    let mut roots = Vec::new(alloc);
+    let mut roots = Items::new(alloc);
     for root in ["linked/tree/link", "linked/tree"] {
-        roots.push(String::from_str(alloc, root)?)?;
+        roots.push(text(alloc, root)?)?;
     }
     let mut shelf = FolderShelf::new(rt, roots);
     for (server, path, wanted) in [(0, "a", "1"), (1, "link/a", "fault"), (1, "a", "absent")] {
@@ -294,13 +300,13 @@ fn no_link_below_a_root_is_followed(rt: HostRuntime) -> Result<(), Fail> {
 fn many_files_are_listed(rt: HostRuntime) -> Result<(), Fail> {
     let alloc = rt.alloc();
     fresh(&rt, "many")?;
-    let mut device = FolderDevice::new(rt, String::from_str(alloc, "many/s")?);
+    let mut device = FolderDevice::new(rt, text(alloc, "many/s")?);
     for number in 0..600u32 {
         let path = format!(in alloc; "r/{number}/{number}")?;
         device.write(&tree_path(alloc, path.as_str())?, b"1")?;
     }
-    let mut roots = Vec::new(alloc);
-    roots.push(String::from_str(alloc, "many/s")?)?;
+    let mut roots = Items::new(alloc);
+    roots.push(text(alloc, "many/s")?)?;
     let mut shelf = FolderShelf::new(rt, roots);
     if shelf.servers() > 0 {
         let paths = shelf.list(alloc, 0, &FilePath::from_text(alloc, "r")?)?;
@@ -316,7 +322,7 @@ fn a_fault_of_a_real_tree_is_answered(rt: HostRuntime) -> Result<(), Fail> {
     fresh(&rt, "faulty")?;
     fs::write(&rt, "faulty/file", "")?;
     for root in ["", "faulty/file", "faulty/file/below"] {
-        let mut device = FolderDevice::new(rt, String::from_str(alloc, root)?);
+        let mut device = FolderDevice::new(rt, text(alloc, root)?);
         let write = device.write(&tree_path(alloc, "a")?, b"1");
         assert_eq!(rt; write, Err(DeviceError::Failed), "{root}");
     }

@@ -2,4 +2,14 @@
 #![tactic(auto)]
 
 #[cfg(test)]
+mod calls;
+#[cfg(test)]
 mod folders;
+#[cfg(test)]
+mod outside;
+#[cfg(test)]
+mod places;
+#[cfg(test)]
+mod session;
+#[cfg(test)]
+mod texts;

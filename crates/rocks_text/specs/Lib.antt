@@ -1,2 +1,4 @@
 pub mod Files
+pub mod Items
+pub mod Paths
 pub mod Texts

@@ -3,6 +3,8 @@ use Rattle.std.specs.Prelude.{ℕ, Bool, ◌==◌, ◌&&◌, ◌||◌, not, nat_
 use Rattle.std.specs.List.{list_all, slice_split}
 use Rattle.std.specs.Char.{is_ascii_alphanumeric, is_ascii_digit, is_ascii_lowercase, to_ascii_lowercase}
 use Rattle.std.specs.Str.{bytes_eq}
+use Rattle.rocks_text.specs.declared.name.TheConstants.{LONGEST_NAME}
+use Rattle.rocks_text.specs.declared.path.TheConstants.{FILE_PART, FILE_PATH, TREE_PART, TREE_PATH}
 
 -- a byte that a name may have: `a` to `z`, a digit, `_`, `-` or `.`
 abbrev pub is_name_byte : ℕ → Bool
@@ -11,7 +13,7 @@ is_name_byte b = is_ascii_lowercase b || is_ascii_digit b || b == 95 || b == 45 
 -- the name of a package: 1 to 60 such bytes that begin with a letter or digit, and not `manifest`
 abbrev pub is_name : List ℕ → Bool
 is_name text =
-    nat_le 1 (length text) && nat_le (length text) 60 && is_ascii_alphanumeric (slice_index text 0)
+    nat_le 1 (length text) && nat_le (length text) LONGEST_NAME && is_ascii_alphanumeric (slice_index text 0)
     && list_all is_name_byte text && not (bytes_eq text (codes "manifest"))
 
 -- the text with each of `A` to `Z` in lower case
@@ -38,8 +40,8 @@ is_path longest_part longest text = nat_le (length text) longest && list_all (is
 
 -- a path within a rock, a server or one of a tree's places
 abbrev pub is_file_path : List ℕ → Bool
-is_file_path text = is_path 150 1024 text
+is_file_path text = is_path FILE_PART FILE_PATH text
 
 -- a path within a tree
 abbrev pub is_tree_path : List ℕ → Bool
-is_tree_path text = is_path 255 1200 text
+is_tree_path text = is_path TREE_PART TREE_PATH text

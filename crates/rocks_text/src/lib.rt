@@ -3,10 +3,9 @@
 
 mod fault;
 mod item;
+pub mod laws;
 mod name;
 mod path;
-#[cfg(test)]
-mod tests;
 
 pub use fault::TextFault;
 pub use item::{Item, Kind};

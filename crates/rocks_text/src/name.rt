@@ -1,5 +1,7 @@
-ghost use Rattle.std.specs.Prelude.{◌≡◌, ◌≢◌, false, IsTrue, IfOk, OnOk, IsErrOf};
+ghost use Rattle.std.specs.Prelude.{◌≡◌, ◌≢◌, ◌↔◌, false, IsTrue, IfOk, IsErrOf, codes};
 ghost use Rattle.std.specs.List.{list_all};
+ghost use Rattle.std.specs.Char.{to_ascii_lowercase};
+ghost use Rattle.std.specs.Str.{bytes_eq};
 ghost use Rattle.rocks_text.specs.Texts.{is_name, is_name_byte, lowered};
 
 use crate::TextFault;
@@ -8,7 +10,7 @@ use std::alloc::{AllocError, Global};
 use std::marker::Model;
 
 /// The longest name, in bytes.
-const LONGEST: usize = 60;
+const LONGEST_NAME: usize = 60;
 
 /// The name of the tree's own file beside the folders of the rocks, which no package may have.
 const MANIFEST: &str = "manifest";
@@ -36,19 +38,17 @@ impl Model for Name {
 impl Name {
     /// The name that a text stands for: the text with `A-Z` in lower case.
     ///
-    /// `BadName` exactly where that is no name, unless memory runs out first: then `NoMemory`.
+    /// `BadName` exactly where that is no name, and else `NoMemory` where memory runs out.
     pub fn from_text(alloc: Global, text: &str) -> Result<Name, TextFault>
         ensures value { IfOk result (λ name. name ≡ lowered text.now) }
-        ensures good { OnOk result (IsTrue (is_name (lowered text.now))) }
-        ensures bad { IsErrOf result TextFault.BadName → is_name (lowered text.now) ≡ false }
+        ensures bad { IsErrOf result TextFault.BadName ↔ (is_name (lowered text.now) ≡ false) }
         ensures no_path { result ≢ Err TextFault.BadPath }
     {
-        let lower = text.to_ascii_lowercase(alloc)?;
-        if !is_name(lower.as_bytes()) {
+        if !lowers_to_name(text) {
             return Err(TextFault::BadName);
         }
         Ok(Name {
-            text: Text::from(lower),
+            text: Text::from(text.to_ascii_lowercase(alloc)?),
         })
     }
 
@@ -70,20 +70,34 @@ impl Name {
     }
 }
 
-fn is_name(text: &[u8]) -> bool
-    ensures { result ≡ is_name text.now }
+// Whether the text is a name once it is put into lower case. It takes no memory.
+fn lowers_to_name(text: &str) -> bool
+    ensures { result ≡ is_name (lowered text.now) }
 {
-    !text.is_empty()
-        && text.len() <= LONGEST
-        && text[0].is_ascii_alphanumeric()
-        && are_name_bytes(text)
-        && text != MANIFEST.as_bytes()
+    let bytes = text.as_bytes();
+    !bytes.is_empty()
+        && bytes.len() <= LONGEST_NAME
+        && bytes[0].is_ascii_alphanumeric()
+        && lower_to_name_bytes(bytes)
+        && !lowers_to_manifest(text)
 }
 
-fn are_name_bytes(text: &[u8]) -> bool
-    ensures { result ≡ list_all is_name_byte text.now }
+fn lower_to_name_bytes(text: &[u8]) -> bool
+    ensures { result ≡ list_all (λ b. is_name_byte (to_ascii_lowercase b)) text.now }
 {
-    text.iter().all(|b| is_name_byte(*b))
+    text.iter().all(|b| lowers_to_name_byte(*b))
+}
+
+fn lowers_to_name_byte(b: u8) -> bool
+    ensures { result ≡ is_name_byte (to_ascii_lowercase b) }
+{
+    is_name_byte(b.to_ascii_lowercase())
+}
+
+fn lowers_to_manifest(text: &str) -> bool
+    ensures { result ≡ bytes_eq (lowered text.now) (codes "manifest") }
+{
+    text.eq_ignore_ascii_case(MANIFEST)
 }
 
 fn is_name_byte(b: u8) -> bool

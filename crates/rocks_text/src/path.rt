@@ -1,11 +1,25 @@
-ghost use Rattle.std.specs.Prelude.{◌≡◌, ◌≢◌, ◌↔◌, false, IsTrue, IfOk, IsErrOf};
+ghost use Rattle.std.specs.Prelude.{◌≡◌, ◌≢◌, ◌↔◌, false, IsTrue, IfOk, IfSome, IsErrOf};
 ghost use Rattle.std.specs.List.{list_all};
+ghost use Rattle.std.specs.Option.{option_map};
+ghost use Rattle.rocks_text.specs.Paths.{joined, below};
 ghost use Rattle.rocks_text.specs.Texts.{is_file_path, is_tree_path, is_path, is_part, is_part_byte};
 
 use crate::TextFault;
 use rocks_bytes::Text;
 use std::alloc::{AllocError, Global};
 use std::marker::Model;
+
+/// The longest part of a path on a server, in bytes.
+const FILE_PART: usize = 150;
+
+/// The longest path on a server, in bytes.
+const FILE_PATH: usize = 1024;
+
+/// The longest part of a path in a tree, in bytes.
+const TREE_PART: usize = 255;
+
+/// The longest path in a tree, in bytes.
+const TREE_PATH: usize = 1200;
 
 /// A relative path within a rock or a server: parts of 1 to 150 bytes joined by `/`, at most 1,024 bytes. A part is
 /// not `.` or `..` and has no `\`, no byte below 32 and not 127. Paths are ordered by their bytes (this project's own).
@@ -36,12 +50,44 @@ impl FilePath {
         ensures bad { IsErrOf result TextFault.BadPath ↔ (is_file_path text.now ≡ false) }
         ensures no_name { result ≢ Err TextFault.BadName }
     {
-        if !is_path(150, 1024, text.as_bytes()) {
+        if !is_path(FILE_PART, FILE_PATH, text.as_bytes()) {
             return Err(TextFault::BadPath);
         }
         Ok(FilePath {
             text: Text::from(String::from_str(alloc, text)?),
         })
+    }
+
+    /// The path that a text is known to be. The only error is want of memory.
+    pub fn known(alloc: Global, text: &str) -> Result<FilePath, AllocError>
+        requires { IsTrue (is_file_path text.now) }
+        ensures { IfOk result (λ path. path ≡ text.now) }
+    {
+        Ok(FilePath {
+            text: Text::from(String::from_str(alloc, text)?),
+        })
+    }
+
+    /// The path of what stands at a path in a folder: `FOLDER/PATH`. The only error is want of memory.
+    pub fn joined(alloc: Global, folder: &FilePath, path: &str) -> Result<FilePath, AllocError>
+        requires { IsTrue (is_file_path (joined folder.now path.now)) }
+        ensures { IfOk result (λ whole. whole ≡ joined folder.now path.now) }
+    {
+        let folder = folder.as_str();
+        let whole = format!(in alloc; "{folder}/{path}")?;
+        FilePath::known(alloc, &whole)
+    }
+
+    /// The path from a folder on, or `None` exactly where this path isn't below the folder. What follows a folder and
+    /// its slash is a path itself.
+    pub fn below(&self, folder: &FilePath) -> Option<&str>
+        ensures rest { option_map (λ rest. rest.now) result ≡ below folder.now self.now }
+        ensures valid { IfSome result (λ rest. IsTrue (is_file_path rest.now)) }
+        ensures whole { IsTrue (is_file_path self.now) }
+    {
+        self.as_str()
+            .strip_prefix(folder.as_str())?
+            .strip_prefix('/')
     }
 
     /// The path, to be read.
@@ -90,9 +136,19 @@ impl TreePath {
         ensures bad { IsErrOf result TextFault.BadPath ↔ (is_tree_path text.now ≡ false) }
         ensures no_name { result ≢ Err TextFault.BadName }
     {
-        if !is_path(255, 1200, text.as_bytes()) {
+        if !is_path(TREE_PART, TREE_PATH, text.as_bytes()) {
             return Err(TextFault::BadPath);
         }
+        Ok(TreePath {
+            text: Text::from(String::from_str(alloc, text)?),
+        })
+    }
+
+    /// The path that a text is known to be. The only error is want of memory.
+    pub fn known(alloc: Global, text: &str) -> Result<TreePath, AllocError>
+        requires { IsTrue (is_tree_path text.now) }
+        ensures { IfOk result (λ path. path ≡ text.now) }
+    {
         Ok(TreePath {
             text: Text::from(String::from_str(alloc, text)?),
         })

@@ -1,3 +1,2 @@
 pub mod PathTies
-pub mod PlacePaths
 mod TreeFiles

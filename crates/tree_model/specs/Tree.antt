@@ -1,22 +1,10 @@
 -- The files of a tree, as a function of the set of its rocks. The places are those of a LuaRocks tree for Lua 5.4.
-use Rattle.std.specs.Prelude.{ℕ, ◌≢◌, List, [], ◌∷◌, ◌++◌, map, codes}
+use Rattle.std.specs.Prelude.{ℕ, ◌≢◌, List, [], ◌∷◌, ◌++◌, length, map, codes}
 use Rattle.std.specs.List.{flat_map, AllByRecursion}
 use Rattle.std.specs.FinMap.{from_entries}
 use Rattle.rocks_text.specs.Files.{Files}
-use Rattle.rocks_text.specs.declared.item.Item.{Item}
-use Rattle.rocks_text.specs.declared.item.Kind.{Kind}
-use Rattle.rocks_text.specs.declared.item.Kind.TheVariants.{Lua, Lib, Bin}
+use Rattle.tree_paths.specs.Places.{plain_path}
 use Rattle.tree_model.specs.Rock.{Rock}
-
--- the folder for the items of a kind
-abbrev pub place_of : Kind → List ℕ
-place_of Lua = codes "share/lua/5.4/"
-place_of Lib = codes "lib/lua/5.4/"
-place_of Bin = codes "bin/"
-
--- where an item stands
-abbrev pub plain_path : Item → List ℕ
-plain_path item = place_of item.kind ++ item.path
 
 -- NAME-VERSION.rockspec
 abbrev pub rockspec_name : (name version : List ℕ) → List ℕ
@@ -25,11 +13,17 @@ rockspec_name name version = name ++ (codes "-" ++ (version ++ codes ".rockspec"
 -- where a rock's rockspec stands
 abbrev pub rockspec_path : (name version : List ℕ) → List ℕ
 rockspec_path name version =
-    codes "lib/luarocks/rocks-5.4/" ++ (name ++ (codes "/" ++ (version ++ (codes "/" ++ rockspec_name name version))))
+    codes "lib/luarocks/rocks-5.4/"
+    ++ (name ++ (codes "/" ++ (version ++ (codes "/" ++ rockspec_name name version))))
 
 -- the files that a rock brings, with their paths in the tree
 abbrev pub files_of : Rock → List (List ℕ × List ℕ)
-files_of rock = (rockspec_path rock.name rock.version, rock.rockspec) ∷ map (λ item. (plain_path item.0, item.1)) rock.items
+files_of rock =
+    (rockspec_path rock.name rock.version, rock.rockspec) ∷ map (λ item. (plain_path item.0, item.1)) rock.items
+
+-- how many files the rocks of a set bring
+abbrev pub file_count : List Rock → ℕ
+file_count rocks = length (flat_map files_of rocks)
 
 -- no path stands twice
 abbrev pub HaveOwnPaths : List (List ℕ × List ℕ) → Type 0

@@ -6,16 +6,15 @@ ghost use Rattle.tree_model.specs.Rock.{Rock};
 ghost use Rattle.tree_model.specs.Tree.{tree_of, files_of, HaveOwnPaths};
 
 /// The tree of the empty set has no file.
-pub fn empty_set_has_no_file()
+pub fn empty_tree()
     ensures { tree_of [] ≡ empty }
 {}
 
 /// What a tree has at a path, one of its rocks brings. Where no two files of the rocks have one path, the tree has
 /// each of them.
-pub fn a_tree_has_the_files_of_its_rocks()
-    ensures only { (rocks : List Rock) (path bytes : List ℕ)
-        → get (tree_of rocks) path ≡ Some bytes → Contains (flat_map files_of rocks) (path, bytes) }
-    ensures each { (rocks : List Rock) (path bytes : List ℕ)
-        → HaveOwnPaths (flat_map files_of rocks) → Contains (flat_map files_of rocks) (path, bytes)
-        → get (tree_of rocks) path ≡ Some bytes }
+pub fn files_of_a_tree()
+    ensures only { (rocks : List Rock) (path bytes : List ℕ) → get (tree_of rocks) path ≡ Some bytes
+        → Contains (flat_map files_of rocks) (path, bytes) }
+    ensures each { (rocks : List Rock) (path bytes : List ℕ) → HaveOwnPaths (flat_map files_of rocks)
+        → Contains (flat_map files_of rocks) (path, bytes) → get (tree_of rocks) path ≡ Some bytes }
 {}

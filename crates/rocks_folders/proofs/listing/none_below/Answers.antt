@@ -1,7 +1,7 @@
 use Rattle.std.proofs.Common.{◌≡◌, false, refl, string_bytes, subst, sym}
 use Rattle.std.specs.Bool.{nat_eq}
 use Rattle.std.specs.List.{starts_with}
-use Rattle.rocks_text.specs.Files.{IsFolderOf}
+use Rattle.rocks_text.specs.Paths.{IsFolderOf}
 use Rattle.rocks_folders.proofs.Apart.{none_from, sorted_behind}
 use Rattle.rocks_folders.proofs.Names.{behind_first}
 use Rattle.rocks_folders.proofs.listing.none_below.Goals as goal

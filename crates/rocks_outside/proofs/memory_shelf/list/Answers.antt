@@ -3,26 +3,22 @@ use Rattle.std.specs.Prelude.{IsTrue, Some}
 use Rattle.std.specs.BTreeMap.{keys}
 use Rattle.std.specs.List.{filter_map}
 use Rattle.rocks_text.specs.Texts.{is_file_path}
-use Rattle.rocks_outside.specs.Shelf.{below}
+use Rattle.rocks_text.specs.Paths.{below}
 use Rattle.rocks_outside.proofs.Held.{keys-files_of}
-use Rattle.rocks_outside.proofs.Below.{below_some, rest_is_path, listed_more, all_push, folder_listing}
+use Rattle.rocks_text.proofs.Below.{below_some}
+use Rattle.rocks_outside.proofs.Listings.{listed_more, all_push, folder_listing}
 use Rattle.rocks_outside.proofs.memory_shelf.list.Goals as goal
-
-pub file_path-requires : goal.file_path-requires
-file_path-requires c =
-    let whole = below_some c.args.folder.now c.in-Some.path.now c.in-Some-rest_below.rest.now (sym c.in-Some-rest_below.ensures.rest) in
-    rest_is_path c.args.folder.now c.in-Some-rest_below.rest.now (subst (λ p. IsTrue (is_file_path p)) whole c.in-Some-rest_below.ensures.valid)
 
 pub loop-path-preserved-in_ok-push : goal.loop-path-preserved-in_ok-push
 loop-path-preserved-in_ok-push c =
     let folder = c.args.folder.now in
-    let rest = c.in-Some-rest_below.rest.now in
-    let is : below folder c.in-Some.path.now ≡ Some rest = sym c.in-Some-rest_below.ensures.rest in
+    let rest = c.in-Some-below.rest.now in
+    let is : below folder c.in-Some.path.now ≡ Some rest = sym c.in-Some-below.ensures.rest in
     let whole : c.in-Some.path.now ≡ folder ++ 47 ∷ rest = below_some folder c.in-Some.path.now rest is in
     let added : c.push.new.self.items ≡ c.loop-path.paths.items ++ rest ∷ [] = search rules in
     record {
       listed = listed_more folder c.in-Some.path.now rest _ c.next.new.self _ _ _ c.in-Some.ensures.steps is added c.loop-path.invariant.listed;
-      are_paths = rw added (all_push (λ r. IsTrue (is_file_path (folder ++ 47 ∷ r))) _ rest c.loop-path.invariant.are_paths (subst (λ p. IsTrue (is_file_path p)) whole c.in-Some-rest_below.ensures.valid));
+      are_paths = rw added (all_push (λ r. IsTrue (is_file_path (folder ++ 47 ∷ r))) _ rest c.loop-path.invariant.are_paths (subst (λ p. IsTrue (is_file_path p)) whole c.in-Some-below.ensures.whole));
     }
 
 pub returns-clause-listed : goal.returns-clause-listed

@@ -3,7 +3,7 @@ use Rattle.std.specs.Prelude.{IsTrue}
 use Rattle.std.specs.List.{filter_map, AllByRecursion}
 use Rattle.std.specs.BTreeMap.{keys}
 use Rattle.rocks_text.specs.Texts.{is_file_path}
-use Rattle.rocks_outside.specs.Shelf.{below}
+use Rattle.rocks_text.specs.Paths.{below}
 use Rattle.rocks_outside.proofs.memory_shelf.list.Given as goal
 
 -- the paths so far and those of the keys to come are those of all keys

@@ -9,11 +9,11 @@ use Rattle.rocks_session.proofs.paths.unpacked_rockspec.Goals as goal
 regrouped : (name version : List ℕ) → name ++ (codes "-" ++ (version ++ (codes ".rock/" ++ rockspec_name name version))) ≡ unpacked_rockspec name version
 regrouped name version = sym (append_assoc name _ _ ∙ ap (λ (l : List ℕ). name ++ (codes "-" ++ l)) (append_assoc version _ _))
 
-pub file_path-requires : goal.file_path-requires
-file_path-requires c =
+pub known-requires : goal.known-requires
+known-requires c =
     let is = rockspec_in_folder c.as_str-name.result.now c.as_str-version.result.now (name_word _ (rw c.as_str-name.ensures.value c.as_str-name.ensures.valid)) (version_word _ (rw c.as_str-version.ensures.value c.as_str-version.ensures.valid)) in
     subst (λ text. IsTrue (is_file_path text)) (sym (c.deref.ensures ∙ c.in_ok-text.ensures.ok ∙ regrouped c.as_str-name.result.now c.as_str-version.result.now)) is
 
 pub returns : goal.returns
 returns c =
-    IfOk-weaker c.file_path.result _ _ (λ path h. h ∙ (c.deref.ensures ∙ c.in_ok-text.ensures.ok ∙ regrouped c.as_str-name.result.now c.as_str-version.result.now) ∙ rw (c.as_str-name.ensures.value, c.as_str-version.ensures.value) refl) c.file_path.ensures
+    IfOk-weaker c.known.result _ _ (λ path h. h ∙ (c.deref.ensures ∙ c.in_ok-text.ensures.ok ∙ regrouped c.as_str-name.result.now c.as_str-version.result.now) ∙ rw (c.as_str-name.ensures.value, c.as_str-version.ensures.value) refl) c.known.ensures

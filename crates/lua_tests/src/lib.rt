@@ -1,0 +1,7 @@
+//! Tests of the crates that read and print Lua, by their public calls.
+#![tactic(auto)]
+
+#[cfg(test)]
+mod names;
+#[cfg(test)]
+mod tokens;

@@ -1,0 +1,2 @@
+pub use Rattle.rocks_text.specs.Files
+pub mod Places
