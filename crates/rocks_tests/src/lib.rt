@@ -4,6 +4,8 @@
 #[cfg(test)]
 mod calls;
 #[cfg(test)]
+mod folders;
+#[cfg(test)]
 mod outside;
 #[cfg(test)]
 mod places;
