@@ -1,6 +1,7 @@
 ghost use Rattle.std.specs.Prelude.{◌≡◌, drop, IfOk};
 ghost use Rattle.std.specs.Option.{option_map};
-ghost use Rattle.lua_lexer.specs.Reading.{level_at, opened, closed_at, close_at, comment_at, bracket_at, Gives};
+ghost use Rattle.lua_lexer.specs.Reading.{level_at, opened, closed_at, close_at, comment_at};
+ghost use Rattle.lua_lexer.specs.Reading.{bracket_at, Gives};
 ghost use Rattle.lua_lexer.specs.LongBracket.{long_text, lines_of, without_break};
 
 use crate::class::{Class, is_line_break};

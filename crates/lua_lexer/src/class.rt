@@ -1,7 +1,8 @@
 ghost use Rattle.std.specs.Prelude.{◌≡◌};
 ghost use Rattle.std.specs.List.{list_all};
 ghost use Rattle.lua_names.specs.Names.{is_digit, is_name_start, is_name_byte};
-ghost use Rattle.lua_lexer.specs.Alphabet.{is_space, is_line_break, is_numeral_byte, is_hexadecimal, is_quote, digit_of};
+ghost use Rattle.lua_lexer.specs.Alphabet.{is_space, is_line_break, is_numeral_byte};
+ghost use Rattle.lua_lexer.specs.Alphabet.{is_hexadecimal, is_quote, digit_of};
 ghost use Rattle.lua_lexer.specs.Reading.{holds, run, after_run};
 
 use lua_names::is_name_byte;

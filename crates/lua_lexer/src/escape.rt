@@ -2,7 +2,8 @@ ghost use Rattle.std.specs.Prelude.{◌≡◌, ◌<◌, ◌^◌, ◌++◌, OnOk,
 ghost use Rattle.lua_names.specs.Names.{is_digit};
 ghost use Rattle.lua_lexer.specs.Alphabet.{begins_with};
 ghost use Rattle.lua_lexer.specs.QuotedText.{letter_value, continuation, utf8};
-ghost use Rattle.lua_lexer.specs.Reading.{Meets, IsMeaning, meaning_bytes, hexadecimal_at, decimal_at, code_end, code_at, unicode_at, escape_at};
+ghost use Rattle.lua_lexer.specs.Reading.{Meets, IsMeaning, meaning_bytes, hexadecimal_at};
+ghost use Rattle.lua_lexer.specs.Reading.{decimal_at, code_end, code_at, unicode_at, escape_at};
 
 use crate::bracket::without_break;
 use crate::class::{Class, digit_of};
@@ -42,7 +43,8 @@ fn letter(byte: u8) -> Option<u8>
 /// Two hexadecimal digits. An error holds the bytes from that one on at which reading fails, here and below.
 #[tactic(auto, unfolding(crate::specs::Reading::hexadecimal_at))]
 fn hexadecimal(bytes: &[u8]) -> Result<(Meaning, &[u8]), &[u8]>
-    ensures { Meets (λ read. (read.0, read.1.now)) (λ failed. failed.now) result (hexadecimal_at bytes.now) }
+    ensures { Meets (λ read. (read.0, read.1.now)) (λ failed. failed.now) result
+        (hexadecimal_at bytes.now) }
 {
     let Some((high, rest)) = bytes.split_first() else {
         return Err(bytes);
@@ -63,7 +65,8 @@ fn hexadecimal(bytes: &[u8]) -> Result<(Meaning, &[u8]), &[u8]>
 #[tactic(auto, unfolding(crate::specs::Reading::decimal_at))]
 fn decimal(bytes: &[u8]) -> Result<(Meaning, &[u8]), &[u8]>
     requires { IsTrue (begins_with is_digit bytes.now) }
-    ensures { Meets (λ read. (read.0, read.1.now)) (λ failed. failed.now) result (decimal_at bytes.now) }
+    ensures { Meets (λ read. (read.0, read.1.now)) (λ failed. failed.now) result
+        (decimal_at bytes.now) }
 {
     let (front, _) = bytes.split_at(bytes.len().min(3));
     let (digits, _) = Class::Digit.split(front);
@@ -75,7 +78,8 @@ fn decimal(bytes: &[u8]) -> Result<(Meaning, &[u8]), &[u8]>
 
 /// The close of `\u{..}`, whose digits spell this number.
 fn code_end(value: u32, bytes: &[u8]) -> Result<(Meaning, &[u8]), &[u8]>
-    ensures { Meets (λ read. (read.0, read.1.now)) (λ failed. failed.now) result (code_end value bytes.now) }
+    ensures { Meets (λ read. (read.0, read.1.now)) (λ failed. failed.now) result
+        (code_end value bytes.now) }
 {
     match bytes {
         [b'}', rest @ ..] => Ok((Meaning::Code(value), rest)),
@@ -87,7 +91,8 @@ fn code_end(value: u32, bytes: &[u8]) -> Result<(Meaning, &[u8]), &[u8]>
 #[tactic(auto, unfolding(crate::specs::Reading::code_at))]
 fn code(first: u32, bytes: &[u8]) -> Result<(Meaning, &[u8]), &[u8]>
     requires { first < 2 ^ 31 }
-    ensures { Meets (λ read. (read.0, read.1.now)) (λ failed. failed.now) result (code_at first bytes.now) }
+    ensures { Meets (λ read. (read.0, read.1.now)) (λ failed. failed.now) result
+        (code_at first bytes.now) }
 {
     let mut value = first;
     let mut rest = bytes;
@@ -107,7 +112,8 @@ fn code(first: u32, bytes: &[u8]) -> Result<(Meaning, &[u8]), &[u8]>
 
 #[tactic(auto, unfolding(crate::specs::Reading::unicode_at))]
 fn unicode(bytes: &[u8]) -> Result<(Meaning, &[u8]), &[u8]>
-    ensures { Meets (λ read. (read.0, read.1.now)) (λ failed. failed.now) result (unicode_at bytes.now) }
+    ensures { Meets (λ read. (read.0, read.1.now)) (λ failed. failed.now) result
+        (unicode_at bytes.now) }
 {
     let [b'{', rest @ ..] = bytes else {
         return Err(bytes);
@@ -124,7 +130,8 @@ fn unicode(bytes: &[u8]) -> Result<(Meaning, &[u8]), &[u8]>
 /// What the escape stands for whose `\` stands before the bytes, and the bytes after it.
 #[tactic(auto, unfolding(crate::specs::Reading::escape_at))]
 pub fn escape(bytes: &[u8]) -> Result<(Meaning, &[u8]), &[u8]>
-    ensures { Meets (λ read. (read.0, read.1.now)) (λ failed. failed.now) result (escape_at bytes.now) }
+    ensures { Meets (λ read. (read.0, read.1.now)) (λ failed. failed.now) result
+        (escape_at bytes.now) }
 {
     let Some((first, rest)) = bytes.split_first() else {
         return Err(bytes);

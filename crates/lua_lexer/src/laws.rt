@@ -17,7 +17,8 @@ pub fn one_list()
 /// A text spells a list of tokens or has a fault, never both, and one fault only.
 pub fn list_or_fault()
     ensures either { (text : List ℕ)
-        → ((tokens : List Token) × Spells text tokens) ⊎ ((fault : LexFault) × HasFault text fault) }
+        → ((tokens : List Token) × Spells text tokens)
+        ⊎ ((fault : LexFault) × HasFault text fault) }
     ensures not_both { (text : List ℕ) (tokens : List Token) (fault : LexFault)
         → Spells text tokens → HasFault text fault → ⊥ }
     ensures one_fault { (text : List ℕ) (fault other : LexFault)
@@ -27,5 +28,6 @@ pub fn list_or_fault()
 /// The places of tokens rise strictly, and at its place stands each token's spelling.
 pub fn places()
     ensures rise { (text : List ℕ) (tokens : List Token) → Spells text tokens → Rises tokens }
-    ensures stand { (text : List ℕ) (tokens : List Token) → Spells text tokens → EachStands text tokens }
+    ensures stand { (text : List ℕ) (tokens : List Token)
+        → Spells text tokens → EachStands text tokens }
 {}

@@ -1,7 +1,8 @@
 ghost use Rattle.std.specs.Prelude.{◌≡◌, ◌<◌, unwrap_or};
 ghost use Rattle.std.specs.Option.{option_map};
 ghost use Rattle.lua_lexer.specs.Alphabet.{value, digit_of};
-ghost use Rattle.lua_lexer.specs.Reading.{within, hexadecimal_digits, integer_of, numeral_at, Gives};
+ghost use Rattle.lua_lexer.specs.Reading.{within, hexadecimal_digits, integer_of, numeral_at};
+ghost use Rattle.lua_lexer.specs.Reading.{Gives};
 
 use crate::class::{Class, digit_of};
 use crate::stop::{Cause, Stop};

@@ -1,5 +1,6 @@
 ghost use Rattle.std.specs.Prelude.{◌≡◌, IfOk};
-ghost use Rattle.lua_lexer.specs.Reading.{word_at, symbol_at, dots_at, pair_of, pair_at, single_of, single_at};
+ghost use Rattle.lua_lexer.specs.Reading.{word_at, symbol_at, dots_at, pair_of, pair_at, single_of};
+ghost use Rattle.lua_lexer.specs.Reading.{single_at};
 ghost use Rattle.std.specs.Option.{option_map};
 
 use crate::class::Class;

@@ -1,8 +1,11 @@
-ghost use Rattle.std.specs.Prelude.{◌≡◌, ◌≢◌, ◌++◌, ◌<◌, ◌∷◌, [], length, slice_get, if◌then◌else◌, IfOk, OnOk, OnErr, Some, codes};
+ghost use Rattle.std.specs.Prelude.{◌≡◌, ◌≢◌, ◌++◌, ◌<◌, ◌∷◌, [], length, slice_get, if◌then◌else◌};
+ghost use Rattle.std.specs.Prelude.{IfOk, OnOk, OnErr, Some, codes};
 ghost use Rattle.std.specs.Fmt.{decimal};
 ghost use Rattle.lua_value.specs.Ordered.{IsOrdered, IsValue};
 ghost use Rattle.lua_value.specs.Pairs.{pairs, keys};
-ghost use Rattle.lua_print.specs.Printed.{truth_text, key_text, value_text, entries_text, table_text, deeper, name_text, globals_text, IsNameKey, HasNames};
+ghost use Rattle.lua_print.specs.Printed.{truth_text, key_text, value_text, entries_text};
+ghost use Rattle.lua_print.specs.Printed.{table_text, deeper, name_text, globals_text, IsNameKey};
+ghost use Rattle.lua_print.specs.Printed.{HasNames};
 ghost use Rattle.lua_print.specs.Steps.{is_number_key, entry_text};
 
 use crate::name::is_name;
@@ -189,6 +192,3 @@ fn print_number(alloc: Global, number: u64, out: &mut Vec<u8>) -> Result<(), All
 {
     out.extend_from_slice(number.to_string(alloc)?.as_bytes())
 }
-
-#[cfg(test)]
-mod tests;

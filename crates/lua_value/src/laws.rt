@@ -8,14 +8,14 @@ use crate::key::Key;
 use crate::table::Table;
 
 /// An empty table changes nothing in a merge, whether it is the upper or the lower one.
-pub fn law_merged_with_empty(table: &Table)
+pub fn merged_with_empty(table: &Table)
     requires { IsOrdered table.now }
     ensures over { merged_pairs (pairs table.now) [] ≡ pairs table.now }
     ensures under { merged_pairs [] (pairs table.now) ≡ pairs table.now }
 {}
 
 /// Merging the upper table a second time changes nothing.
-pub fn law_merged_again(lower: &Table, upper: &Table)
+pub fn merged_again(lower: &Table, upper: &Table)
     requires lower { IsOrdered lower.now }
     requires upper { IsOrdered upper.now }
     ensures { merged_pairs (merged_pairs (pairs lower.now) (pairs upper.now)) (pairs upper.now)
@@ -23,7 +23,7 @@ pub fn law_merged_again(lower: &Table, upper: &Table)
 {}
 
 /// What a key has after a merge depends on what it has in the two tables, and on nothing else of them.
-pub fn law_merged_key(lower: &Table, upper: &Table, key: &Key)
+pub fn merged_key(lower: &Table, upper: &Table, key: &Key)
     ensures { value_at key.now (merged_pairs (pairs lower.now) (pairs upper.now))
         ≡ merged_at (value_at key.now (pairs lower.now)) (value_at key.now (pairs upper.now)) }
 {}

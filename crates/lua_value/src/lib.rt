@@ -3,9 +3,8 @@
 
 mod entries;
 mod key;
-mod laws;
+pub mod laws;
 mod table;
 
 pub use key::Key;
-pub use laws::{law_merged_again, law_merged_key, law_merged_with_empty};
 pub use table::{Table, Value};

@@ -28,7 +28,9 @@ impl<R: Files + AllocGlobal + Print + Copy + Clone + Drop> FolderDevice<R> {
     /// A tree in this folder.
     pub fn new(rt: R, root: Text) -> FolderDevice<R>
         ensures root { result.tree.root ≡ root }
-        ensures counts { (result.counts.clock ≡ 0) × (result.counts.looks ≡ 0) × (result.counts.faults ≡ 0) }
+        ensures clock { result.counts.clock ≡ 0 }
+        ensures looks { result.counts.looks ≡ 0 }
+        ensures faults { result.counts.faults ≡ 0 }
         ensures unsynced { result.tree.unsynced.paths.items ≡ [] }
     {
         FolderDevice {

@@ -65,7 +65,8 @@ impl<R: Files + AllocGlobal + Clone + Drop> FolderTree<R> {
 
     /// Puts the bytes at the path, in place of what was there.
     pub(crate) fn write(&mut self, path: &TreePath, bytes: &[u8]) -> Result<(), DeviceError>
-        ensures noted { OnOk result (self.new.unsynced.paths.items ≡ self.old.unsynced.paths.items ++ changed_at path.now) }
+        ensures noted { OnOk result (self.new.unsynced.paths.items
+            ≡ self.old.unsynced.paths.items ++ changed_at path.now) }
         ensures kept { AreKept self.old.unsynced.paths.items self.new.unsynced.paths.items }
     {
         self.stands_for_a_file(path)?;
@@ -101,7 +102,8 @@ impl<R: Files + AllocGlobal + Clone + Drop> FolderTree<R> {
     /// Makes all changes so far durable. What has changed stays noted until this answers `Ok`.
     pub(crate) fn sync(&mut self) -> Result<(), DeviceError>
         ensures done { OnOk result (self.new.unsynced.paths.items ≡ []) }
-        ensures kept { OnErr result (AreSamePaths self.old.unsynced.paths.items self.new.unsynced.paths.items) }
+        ensures kept { OnErr result
+            (AreSamePaths self.old.unsynced.paths.items self.new.unsynced.paths.items) }
     {
         Ok(self.unsynced.sync(&self.rt, self.root.as_str())?)
     }
@@ -126,7 +128,8 @@ impl<R: Files + AllocGlobal + Clone + Drop> FolderTree<R> {
     }
 
     fn move_file(&mut self, from: &TreePath, to: &TreePath) -> Result<(), DeviceError>
-        ensures noted { OnOk result (self.new.unsynced.paths.items ≡ self.old.unsynced.paths.items ++ changed_at from.now ++ changed_at to.now) }
+        ensures noted { OnOk result (self.new.unsynced.paths.items
+            ≡ self.old.unsynced.paths.items ++ changed_at from.now ++ changed_at to.now) }
         ensures kept { AreKept self.old.unsynced.paths.items self.new.unsynced.paths.items }
     {
         let alloc = self.rt.alloc();
@@ -142,7 +145,8 @@ impl<R: Files + AllocGlobal + Clone + Drop> FolderTree<R> {
     }
 
     fn take_away(&mut self, path: &TreePath) -> Result<(), DeviceError>
-        ensures noted { OnOk result (self.new.unsynced.paths.items ≡ self.old.unsynced.paths.items ++ changed_at path.now) }
+        ensures noted { OnOk result (self.new.unsynced.paths.items
+            ≡ self.old.unsynced.paths.items ++ changed_at path.now) }
         ensures kept { AreKept self.old.unsynced.paths.items self.new.unsynced.paths.items }
     {
         let alloc = self.rt.alloc();

@@ -1,12 +1,14 @@
 // Tests of listings: what a real folder lists is looked at before it is answered, since nothing is known of a disk.
-ghost use Rattle.std.specs.Prelude.{◌≡◌, ◌↔◌, ◌++◌, ◌∷◌, IsTrue, IfOk, IsErrOf, OnOk, map, string_bytes};
+ghost use Rattle.std.specs.Prelude.{◌≡◌, ◌↔◌, ◌++◌, ◌∷◌, IsTrue, IfOk, IsErrOf, OnOk};
+ghost use Rattle.std.specs.Prelude.{map, string_bytes};
 ghost use Rattle.std.specs.List.{AllByRecursion, filter, starts_with};
 ghost use Rattle.std.specs.Bool.{nat_eq};
 ghost use Rattle.std.specs.List.Sorted.{IsStrictlySortedBy};
 ghost use Rattle.rocks_text.specs.Files.{path_cmp};
 ghost use Rattle.rocks_text.specs.Paths.{IsFolderOf};
 ghost use Rattle.rocks_text.specs.Texts.{is_file_path, is_tree_path};
-ghost use Rattle.rocks_folders.specs.Listings.{HasNoneBelow, IsPathBelow, IsTreeOfNames, IsFolderOfNames};
+ghost use Rattle.rocks_folders.specs.Listings.{HasNoneBelow, IsPathBelow};
+ghost use Rattle.rocks_folders.specs.Listings.{IsTreeOfNames, IsFolderOfNames};
 ghost use Rattle.rocks_outside.specs.Device.{IsAscending, IsListing};
 ghost use Rattle.rocks_outside.specs.Shelf.{IsFolderListing};
 
@@ -23,9 +25,11 @@ pub(crate) fn paths_from(
     names: &[String],
     prefix: &str,
 ) -> Result<Vec<TreePath>, DiskError>
-    ensures value { IfOk result (λ paths. paths.items ≡ filter (λ name. starts_with nat_eq name prefix.now) (map string_bytes names.now)) }
+    ensures value { IfOk result (λ paths. paths.items
+        ≡ filter (λ name. starts_with nat_eq name prefix.now) (map string_bytes names.now)) }
     ensures form { IfOk result (λ paths. IsListing prefix.now paths.items) }
-    ensures cause { IsErrOf result DiskError.Failed → IsTreeOfNames (map string_bytes names.now) → ⊥ }
+    ensures cause { IsErrOf result DiskError.Failed
+        → IsTreeOfNames (map string_bytes names.now) → ⊥ }
 {
     if !is_ascending(names) {
         return Err(DiskError::Failed);
@@ -51,7 +55,8 @@ pub(crate) fn paths_below(
 ) -> Result<Vec<FilePath>, DiskError>
     ensures value { IfOk result (λ paths. paths.items ≡ map string_bytes names.now) }
     ensures form { IfOk result (λ paths. IsFolderListing folder.now paths.items) }
-    ensures cause { IsErrOf result DiskError.Failed → IsFolderOfNames folder.now (map string_bytes names.now) → ⊥ }
+    ensures cause { IsErrOf result DiskError.Failed
+        → IsFolderOfNames folder.now (map string_bytes names.now) → ⊥ }
 {
     if !is_ascending(names) || !are_apart(names) {
         return Err(DiskError::Failed);
@@ -86,7 +91,8 @@ fn begins(text: &str, prefix: &str) -> bool
 // Whether no name is that of a folder of another.
 fn are_apart(names: &[String]) -> bool
     requires { IsAscending (map string_bytes names.now) }
-    ensures { IsTrue result ↔ AllByRecursion (HasNoneBelow (map string_bytes names.now)) (map string_bytes names.now) }
+    ensures { IsTrue result
+        ↔ AllByRecursion (HasNoneBelow (map string_bytes names.now)) (map string_bytes names.now) }
 {
     let mut rest = names;
     while let [first, tail @ ..] = rest {
@@ -143,8 +149,10 @@ fn file_paths(
     names: &[String],
 ) -> Result<Vec<FilePath>, DiskError>
     ensures same { IfOk result (λ paths. paths.items ≡ map string_bytes names.now) }
-    ensures whole { IfOk result (λ paths. AllByRecursion (λ path. IsTrue (is_file_path (folder.now ++ 47 ∷ path))) paths.items) }
-    ensures cause { IsErrOf result DiskError.Failed → AllByRecursion (IsPathBelow folder.now) (map string_bytes names.now) → ⊥ }
+    ensures whole { IfOk result (λ paths.
+        AllByRecursion (λ path. IsTrue (is_file_path (folder.now ++ 47 ∷ path))) paths.items) }
+    ensures cause { IsErrOf result DiskError.Failed
+        → AllByRecursion (IsPathBelow folder.now) (map string_bytes names.now) → ⊥ }
 {
     let mut paths = Vec::new(alloc);
     for name in names {

@@ -46,7 +46,8 @@ fn enter(
     at: &mut String,
     part: &str,
 ) -> Result<(), AllocError>
-    ensures folders { OnOk result (folders.new.items ≡ folders.old.items ++ (string_bytes at.old ++ part.now) ∷ []) }
+    ensures folders { OnOk result (folders.new.items
+        ≡ folders.old.items ++ (string_bytes at.old ++ part.now) ∷ []) }
     ensures at { OnOk result (string_bytes at.new ≡ string_bytes at.old ++ part.now ++ 47 ∷ []) }
 {
     at.push_str(part)?;

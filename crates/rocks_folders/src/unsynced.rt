@@ -31,7 +31,8 @@ impl Unsynced {
 
     /// Notes a change at a relative path, with the folders above it.
     pub(crate) fn note(&mut self, alloc: Global, path: &str) -> Result<(), AllocError>
-        ensures ok { OnOk result (self.new.paths.items ≡ self.old.paths.items ++ changed_at path.now) }
+        ensures ok { OnOk result
+            (self.new.paths.items ≡ self.old.paths.items ++ changed_at path.now) }
         ensures err { OnErr result (self.new.paths.items ≡ self.old.paths.items) }
         ensures above { self.new.above.items ≡ self.old.above.items }
     {

@@ -29,7 +29,8 @@ fn main(rt: HostRuntime) -> ExitCode {
 // Runs the words over the folders that they name, standard input and standard output.
 fn answer(rt: &HostRuntime, words: &[String]) -> Status
     ensures bad_words { result ≡ Status.BadWords → IsErr (command_of (map string_bytes words.now)) }
-    ensures words_first { IsErr (command_of (map string_bytes words.now)) → (result ≡ Status.BadWords) ⊎ (result ≡ Status.NoMemory) }
+    ensures words_first { IsErr (command_of (map string_bytes words.now))
+        → (result ≡ Status.BadWords) ⊎ (result ≡ Status.NoMemory) }
 {
     let alloc = rt.alloc();
     match roots(alloc, words) {

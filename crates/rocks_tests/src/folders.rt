@@ -1,5 +1,6 @@
 //! The real objects over real folders. Each test has a folder of its own, named after it.
 
+use crate::calls::{Call, files, is_done};
 use rocks_bytes::Text;
 use rocks_folders::{FolderDevice, FolderShelf, StdSource};
 use rocks_outside::{Device, DeviceError, Shelf, ShelfError, ShelfRead, Source};
@@ -9,16 +10,6 @@ use std::alloc::Global;
 use std::fs;
 use std::os::unix::fs::symlink;
 use std::test::Fail;
-
-/// A call of a device.
-#[derive(Debug, Drop)]
-enum Call {
-    Write(&'static str, &'static str),
-    Rename(&'static str, &'static str),
-    Remove(&'static str),
-    Sync,
-    Say(&'static str),
-}
 
 // Makes a test's folder, empty.
 fn fresh(rt: &HostRuntime, folder: &str) -> Result<(), Fail> {
@@ -35,33 +26,6 @@ fn text(alloc: Global, text: &str) -> Result<Text, Fail> {
 
 fn tree_path(alloc: Global, text: &str) -> Result<TreePath, Fail> {
     Ok(TreePath::from_text(alloc, text)?)
-}
-
-fn is_done<D: Device>(alloc: Global, device: &mut D, call: &Call) -> Result<bool, Fail> {
-    let answer = match call {
-        Call::Write(path, bytes) => device.write(&tree_path(alloc, path)?, bytes.as_bytes()),
-        Call::Rename(from, to) => {
-            device.rename(&tree_path(alloc, from)?, &tree_path(alloc, to)?)
-        }
-        Call::Remove(path) => device.remove(&tree_path(alloc, path)?),
-        Call::Sync => device.sync(),
-        Call::Say(text) => device.say(text.as_bytes()),
-    };
-    Ok(answer.is_ok())
-}
-
-/// The files of a tree, each as `path=bytes;`.
-fn files<D: Device>(alloc: Global, device: &mut D, prefix: &str) -> Result<String, Fail> {
-    let mut text = String::new(alloc);
-    let paths = device.list(alloc, prefix)?;
-    for path in &paths {
-        let bytes = device.read(alloc, path)?.ok_or("listed and absent")?;
-        text.push_str(path.as_str())?;
-        text.push('=')?;
-        text.push_str(str::from_utf8(&bytes)?)?;
-        text.push(';')?;
-    }
-    Ok(text)
 }
 
 #[test]

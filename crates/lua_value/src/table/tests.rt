@@ -3,7 +3,7 @@ ghost use Rattle.lua_value.specs.Key.{IsKey};
 ghost use Rattle.lua_value.specs.Ordered.{IsOrdered, IsValue};
 
 use super::*;
-use crate::laws::{law_merged_again, law_merged_key, law_merged_with_empty};
+use crate::laws::{merged_again, merged_key, merged_with_empty};
 use std::fmt::Write;
 use std::process::Abort;
 use std::test::Fail;
@@ -165,9 +165,9 @@ fn check_merge(
 {
     let merged = lower.merged(alloc, upper)?;
     assert_eq!(rt; shown(alloc, &merged)?.as_str(), expected);
-    law_merged_again(lower, upper);
-    law_merged_key(lower, upper, &Key::Int(1));
-    law_merged_with_empty(upper);
+    merged_again(lower, upper);
+    merged_key(lower, upper, &Key::Int(1));
+    merged_with_empty(upper);
     Ok(())
 }
 

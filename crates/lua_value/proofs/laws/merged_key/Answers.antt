@@ -1,5 +1,5 @@
 use Rattle.lua_value.proofs.Merges.{value_at-merged_pairs}
-use Rattle.lua_value.proofs.laws.law_merged_key.Goals as goal
+use Rattle.lua_value.proofs.laws.merged_key.Goals as goal
 
 pub returns : goal.returns
 returns c = value_at-merged_pairs c.args.key.now c.args.lower.now.entries c.args.upper.now.entries

@@ -1,11 +1,14 @@
+//! The text in which tables are printed.
 ghost use Rattle.std.specs.Prelude.{◌≡◌, ◌≢◌, IfOk, codes};
 ghost use Rattle.lua_value.specs.Key.{IsKey};
 ghost use Rattle.lua_value.specs.Ordered.{IsOrdered, IsValue};
 ghost use Rattle.lua_value.specs.Pairs.{pairs};
 ghost use Rattle.lua_print.specs.Printed.{HasNames};
 
-use super::*;
+use lua_print::print;
+use lua_value::{Key, Table, Value};
 use rocks_bytes::Bytes;
+use std::alloc::{AllocError, Global};
 use std::process::Abort;
 use std::test::Fail;
 
