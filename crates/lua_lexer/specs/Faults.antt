@@ -10,6 +10,8 @@ use Rattle.lua_lexer.specs.QuotedText.{FailsToClose, ends_line}
 use Rattle.lua_lexer.specs.LongBracket.{Opens, StaysOpen}
 use Rattle.lua_lexer.specs.Spelling.{Element, element_bytes, FitsElement, IsNumeral, IsInteger, SpellsToken}
 use Rattle.lua_lexer.specs.Turns.{InTurn}
+use Rattle.lua_lexer.specs.declared.numeral.TheConstants.{GREATEST}
+use Rattle.lua_lexer.specs.declared.lexer.TheConstants.{LONGEST}
 
 -- the byte is no white space, and no token's spelling begins with it
 abbrev pub BeginsNothing : ℕ → Type 0
@@ -39,13 +41,13 @@ Fails (faults.OpenString _) rest behind = (front failed : List ℕ) × (at : ℕ
 Fails (faults.OpenBracket _) rest behind = HasOpenBracket rest × (behind ≡ 0)
 Fails (faults.BadEscape _) rest behind = (front failed : List ℕ) × FailsToClose rest front failed behind × IsFalse (ends_line failed)
 Fails (faults.BadNumeral _) rest behind = (bytes : List ℕ) × HasNumeral rest bytes × ((n : ℕ) → IsInteger n bytes → ⊥) × (behind ≡ 0)
-Fails (faults.NumberTooLarge _) rest behind = (bytes : List ℕ) × HasNumeral rest bytes × (n : ℕ) × IsInteger n bytes × (9223372036854775807 < n) × (behind ≡ 0)
+Fails (faults.NumberTooLarge _) rest behind = (bytes : List ℕ) × HasNumeral rest bytes × (n : ℕ) × IsInteger n bytes × (GREATEST < n) × (behind ≡ 0)
 Fails (faults.TooLong _) rest behind = ⊥
 Fails faults.NoMemory rest behind = ⊥
 
 -- The text is short enough, gaps and tokens can be read up to some rest, and there this fault lies.
 pub record FailsAt (text : List ℕ) (fault : LexFault) (place : ℕ) : Type 0 where
-  pub short : length text ≤ 8388608
+  pub short : length text ≤ LONGEST
   pub elements : List Element
   pub rest : List ℕ
   pub behind : ℕ
@@ -56,7 +58,7 @@ pub record FailsAt (text : List ℕ) (fault : LexFault) (place : ℕ) : Type 0 w
 
 -- the fault of a text; a text that is too long has that fault and no other
 abbrev pub HasFault : List ℕ → LexFault → Type 0
-HasFault text (faults.TooLong n) = (8388608 < length text) × (n ≡ length text)
+HasFault text (faults.TooLong n) = (LONGEST < length text) × (n ≡ length text)
 HasFault text (faults.BadByte place) = FailsAt text (faults.BadByte place) place
 HasFault text (faults.OpenString place) = FailsAt text (faults.OpenString place) place
 HasFault text (faults.OpenBracket place) = FailsAt text (faults.OpenBracket place) place

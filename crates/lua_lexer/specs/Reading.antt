@@ -25,6 +25,8 @@ use Rattle.lua_names.specs.Names.{is_digit, is_name_start, is_name_byte}
 use Rattle.lua_lexer.specs.Alphabet.{is_space, is_line_break, is_numeral_byte, digit_of, is_hexadecimal, is_quote, value, begins_with}
 use Rattle.lua_lexer.specs.QuotedText.{letter_value, utf8, ends_line}
 use Rattle.lua_lexer.specs.LongBracket.{without_break, long_text}
+use Rattle.lua_lexer.specs.declared.numeral.TheConstants.{GREATEST}
+use Rattle.lua_lexer.specs.declared.lexer.TheConstants.{LONGEST}
 
 -- ---- what a reader answers
 
@@ -143,7 +145,7 @@ abbrev pub within : ℕ → ℕ → Option ℕ
 within limit n = if nat_le n limit then Some n else None
 
 abbrev pub greatest : ℕ
-greatest = 9223372036854775807
+greatest = GREATEST
 
 abbrev pub or_cause : {A : Type 0} → Option A → Cause × ℕ → Outcome A
 or_cause None cause = Err cause
@@ -426,4 +428,4 @@ placed_faults text (Err e) = Err (fault_at e.0 (length text - e.1))
 
 -- the tokens of a text, or its fault
 unfoldable pub lex : List ℕ → Result (List Token) LexFault
-lex text = if nat_lt 8388608 (length text) then Err (faults.TooLong (length text)) else placed_faults text (tokens_at text)
+lex text = if nat_lt LONGEST (length text) then Err (faults.TooLong (length text)) else placed_faults text (tokens_at text)

@@ -13,6 +13,8 @@ use Rattle.lua_lexer.specs.Vocabulary.{symbol_bytes}
 use Rattle.lua_lexer.specs.QuotedText.{IsQuoted, ends_line}
 use Rattle.lua_lexer.specs.LongBracket.{long_text, IsBracket, Opens}
 use Rattle.lua_lexer.specs.Turns.{InTurn}
+use Rattle.lua_lexer.specs.declared.numeral.TheConstants.{GREATEST}
+use Rattle.lua_lexer.specs.declared.lexer.TheConstants.{LONGEST}
 
 -- ---- numerals
 
@@ -52,7 +54,7 @@ SpellsToken (kinds.Name name) bytes after = (bytes ≡ name) × IsTrue (is_name 
 SpellsToken (kinds.Keyword keyword) bytes after = bytes ≡ keyword_bytes keyword
 SpellsToken (kinds.Symbol symbol) bytes after = (bytes ≡ symbol_bytes symbol) × StandsBefore symbol after
 SpellsToken (kinds.Text text) bytes after = IsQuoted text bytes ⊎ ((body : List ℕ) × (text ≡ long_text body) × IsBracket body bytes after)
-SpellsToken (kinds.Int n) bytes after = IsInteger n bytes × (n ≤ 9223372036854775807)
+SpellsToken (kinds.Int n) bytes after = IsInteger n bytes × (n ≤ GREATEST)
 SpellsToken kinds.End bytes after = ⊥
 
 -- the bytes are a numeral, whether it is an integer or not, or spell some token
@@ -108,7 +110,7 @@ tokens_from place (Spelled kind bytes ∷ elements) = record { place = place; ki
 -- The text spells these tokens: it is at most 8,388,608 bytes long, and white space, comments and spellings
 -- in turn, each spelling the longest that fits.
 pub record Spells (text : List ℕ) (tokens : List Token) : Type 0 where
-  pub short : length text ≤ 8388608
+  pub short : length text ≤ LONGEST
   pub elements : List Element
   pub spelled : text ≡ flat_map element_bytes elements
   pub in_turn : InTurn element_bytes FitsElement elements []

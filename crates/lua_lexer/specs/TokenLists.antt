@@ -5,6 +5,8 @@ use Rattle.lua_names.specs.Names.{is_name}
 use Rattle.lua_lexer.specs.declared.token.Token.{Token}
 use Rattle.lua_lexer.specs.declared.token.TokenKind.{TokenKind}
 use Rattle.lua_lexer.specs.declared.token.TokenKind.TheVariants as kinds
+use Rattle.lua_lexer.specs.declared.numeral.TheConstants.{GREATEST}
+use Rattle.lua_lexer.specs.declared.lexer.TheConstants.{LONGEST}
 
 abbrev pub IsByte : ℕ → Type 0
 IsByte b = b < 256
@@ -13,12 +15,12 @@ IsByte b = b < 256
 abbrev pub IsInRange : TokenKind → Type 0
 IsInRange (kinds.Name name) = IsTrue (is_name name)
 IsInRange (kinds.Text text) = AllByRecursion IsByte text
-IsInRange (kinds.Int n) = n ≤ 9223372036854775807
+IsInRange (kinds.Int n) = n ≤ GREATEST
 IsInRange _ = Unit {0}
 
 -- no place lies behind the end of the longest text
 abbrev pub FitsToken : Token → Type 0
-FitsToken token = (token.place ≤ 8388608) × IsInRange token.kind
+FitsToken token = (token.place ≤ LONGEST) × IsInRange token.kind
 
 -- `End` is the last token and no other
 abbrev pub EndsOnce : List Token → Type 0

@@ -17,7 +17,7 @@ const LONGEST: usize = 8_388_608;
 
 /// All tokens of a text, or why there are none.
 fn all(alloc: Global, text: &[u8]) -> Result<Vec<Token>, Stop>
-    requires { length text.now ≤ 8388608 }
+    requires { length text.now ≤ LONGEST }
     ensures { Gives (λ v. v.items) result (tokens_at text.now) }
 {
     let mut tokens = Vec::new(alloc);
@@ -39,7 +39,7 @@ fn all(alloc: Global, text: &[u8]) -> Result<Vec<Token>, Stop>
 
 /// The fault of a text of this length at which reading stopped so.
 fn fault(length: usize, stop: Stop) -> LexFault
-    requires limited { length ≤ 8388608 }
+    requires limited { length ≤ LONGEST }
     requires within { LiesWithin length stop }
     ensures { result ≡ fault_of length stop }
 {

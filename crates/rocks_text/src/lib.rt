@@ -10,4 +10,4 @@ mod path;
 pub use fault::TextFault;
 pub use item::{Item, Kind};
 pub use name::Name;
-pub use path::{FilePath, TreePath};
+pub use path::{FilePath, TREE_PATH, TreePath};

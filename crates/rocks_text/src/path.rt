@@ -20,7 +20,7 @@ const FILE_PATH: usize = 1024;
 const TREE_PART: usize = 255;
 
 /// The longest path in a tree, in bytes.
-const TREE_PATH: usize = 1200;
+pub const TREE_PATH: usize = 1200;
 
 /// A relative path within a rock or a server: parts of 1 to 150 bytes joined by `/`, at most 1,024 bytes. A part is
 /// not `.` or `..` and has no `\`, no byte below 32 and not 127. Paths are ordered by their bytes (this project's own).
