@@ -1,86 +1,12 @@
-// What the real device and shelf need of a file system. No call follows a link below the folder that it is given, but
-// for `sync_one`.
-ghost use Rattle.std.specs.Prelude.{◌≡◌, IfOk};
-ghost use Rattle.rocks_folders.specs.declared.disk.DiskError.TheVariants.{NoMemory};
-
-use crate::place;
-use crate::place::join;
+// What the real device and shelf need of a file system. No call follows a link below the folder that it is given.
+use disk_paths::place::join;
+use disk_paths::{DiskError, Noted, is_absence, place};
 use rocks_bytes::Text;
-use rocks_outside::{DeviceError, ShelfError};
-use std::alloc::{AllocError, AllocFailed, Global};
+use rocks_text::TREE_PATH;
 use std::fs::OpenFile;
 use std::io::Write;
 use std::rt::Files;
 use std::{fs, io};
-
-/// The longest relative path, in bytes: no path of a tree or of a server is longer.
-const LONGEST_PATH: usize = 1200;
-
-/// Why something on the disk was not done.
-#[derive(Clone, Copy, Debug, PartialEq, Eq)]
-pub(crate) enum DiskError {
-    /// The file system failed, or something stands there that is neither a plain file nor a folder.
-    Failed,
-    /// Memory ran out before anything was changed.
-    NoMemory,
-}
-
-impl From<AllocError> for DiskError {
-    ghost from_gives = { λ _ error. error ≡ NoMemory };
-
-    fn from(_: AllocError) -> DiskError {
-        DiskError::NoMemory
-    }
-}
-
-impl<T: Drop> From<AllocFailed<T>> for DiskError {
-    ghost from_gives = { λ _ error. error ≡ NoMemory };
-
-    fn from(_: AllocFailed<T>) -> DiskError {
-        DiskError::NoMemory
-    }
-}
-
-impl From<io::Error> for DiskError {
-    ghost use Rattle.rocks_folders.specs.Faults.{disk_error};
-
-    ghost from_gives = { λ error other. other ≡ disk_error error };
-
-    fn from(error: io::Error) -> DiskError {
-        match error.kind() {
-            io::ErrorKind::OutOfMemory => DiskError::NoMemory,
-            _ => DiskError::Failed,
-        }
-    }
-}
-
-impl From<DiskError> for DeviceError {
-    ghost use Rattle.std.specs.Prelude.{◌≡◌};
-    ghost use Rattle.rocks_folders.specs.Faults.{device_error};
-
-    ghost from_gives = { λ error other. other ≡ device_error error };
-
-    fn from(error: DiskError) -> DeviceError {
-        match error {
-            DiskError::Failed => DeviceError::Failed,
-            DiskError::NoMemory => DeviceError::NoMemory,
-        }
-    }
-}
-
-impl From<DiskError> for ShelfError {
-    ghost use Rattle.std.specs.Prelude.{◌≡◌};
-    ghost use Rattle.rocks_folders.specs.Faults.{shelf_error};
-
-    ghost from_gives = { λ error other. other ≡ shelf_error error };
-
-    fn from(error: DiskError) -> ShelfError {
-        match error {
-            DiskError::Failed => ShelfError::Failed,
-            DiskError::NoMemory => ShelfError::NoMemory,
-        }
-    }
-}
 
 /// What stands at a path.
 #[derive(Clone, Copy, Debug, PartialEq, Eq)]
@@ -91,12 +17,6 @@ pub(crate) enum Stands {
     Folder,
     /// A link, or a device, a pipe or a socket.
     Other,
-}
-
-/// A path that was made durable. Only `sync_one` answers one.
-#[derive(Drop)]
-pub(crate) struct Synced {
-    path: Text,
 }
 
 /// What stands at a path, itself and not what a link leads to.
@@ -110,14 +30,6 @@ pub(crate) fn stands_at(files: &impl Files, path: &str) -> Result<Stands, DiskEr
         Err(error) if is_absence(&error) => Ok(Stands::Nothing),
         Err(error) => Err(DiskError::from(error)),
     }
-}
-
-// Whether an error says that nothing stands at a path.
-fn is_absence(error: &io::Error) -> bool {
-    matches!(
-        error.kind(),
-        io::ErrorKind::NotFound | io::ErrorKind::NotADirectory
-    )
 }
 
 /// Whether a folder stands at a path that a user named, which may be a link to one. It is false where nothing is. The
@@ -139,21 +51,22 @@ pub(crate) fn has_root(files: &impl Files, root: &str) -> Result<bool, DiskError
     }
 }
 
-/// The folders that are missing above a missing root, and the one that holds them all, the innermost first.
+/// The folders that are missing above a missing root, and the one that holds them all, the innermost first. It is the
+/// one that the program runs in where all that a relative root names are missing.
 pub(crate) fn missing_above<R: Files + AllocGlobal>(
     rt: &R,
     root: &str,
 ) -> Result<Vec<Text>, DiskError> {
     let alloc = rt.alloc();
     let mut missing = Vec::new(alloc);
-    let mut folder = root.trim_end_matches('/');
-    for _ in 0..root.len() {
-        folder = place::parent_of(folder);
+    for folder in &place::folders_outward(alloc, root.trim_end_matches('/'))? {
+        let folder = place::or_top(folder.as_str());
         missing.push(Text::from(String::from_str(alloc, folder)?))?;
         if has_root(rt, folder)? {
-            break;
+            return Ok(missing);
         }
     }
+    missing.push(Text::from(String::from_str(alloc, ".")?))?;
     Ok(missing)
 }
 
@@ -201,7 +114,8 @@ fn walk_folder<R: Files + AllocGlobal + Clone + Drop>(
         let entry = entry?;
         let path = join(alloc, folder, entry.file_name())?;
         let at = join(alloc, root, path.as_str())?;
-        if path.len() > LONGEST_PATH {
+        // No path of a server is longer than one of a tree.
+        if path.len() > TREE_PATH {
             return Err(DiskError::Failed);
         }
         match stands_at(rt, at.as_str())? {
@@ -227,31 +141,43 @@ pub(crate) fn read_whole<R: Files + AllocGlobal>(
 pub(crate) fn write_whole<R: Files + AllocGlobal>(
     rt: &R,
     root: &str,
-    path: &str,
+    noted: &Noted,
     bytes: &[u8],
 ) -> Result<(), DiskError> {
-    let at = join(rt.alloc(), root, path)?;
+    let at = join(rt.alloc(), root, noted.path())?;
     let mut file = fs::create(rt, at.as_str())?;
     file.write_all(bytes)?;
     Ok(())
 }
 
-/// Makes a file or folder below a root durable, where it is still there; the empty path is the root. It follows a link,
-/// since the root may be one.
-pub(crate) fn sync_one<R: Files + AllocGlobal>(
+/// Makes a root, and the folders above it that are missing.
+pub(crate) fn make_root<R: Files + AllocGlobal>(
     rt: &R,
     root: &str,
-    path: &Text,
-) -> Result<Synced, DiskError>
-    ensures { IfOk result (λ synced. synced.path ≡ path.now) }
-{
-    let at = place::whole(rt.alloc(), root, path.as_str())?;
-    match fs::open(rt, at.as_str()) {
-        Ok(opened) => opened.sync_all()?,
-        Err(error) if is_absence(&error) => {}
-        Err(error) => return Err(DiskError::from(error)),
-    }
-    Ok(Synced {
-        path: path.copy(rt.alloc())?,
-    })
+    noted: &Noted,
+) -> Result<(), DiskError> {
+    let at = place::whole(rt.alloc(), root, noted.path())?;
+    Ok(fs::create_dir_all(rt, at.as_str())?)
+}
+
+/// Moves a file below a root, in place of what was at the new path.
+pub(crate) fn move_file<R: Files + AllocGlobal>(
+    rt: &R,
+    root: &str,
+    from: &Noted,
+    to: &Noted,
+) -> Result<(), DiskError> {
+    let old = join(rt.alloc(), root, from.path())?;
+    let new = join(rt.alloc(), root, to.path())?;
+    Ok(fs::rename(rt, old.as_str(), new.as_str())?)
+}
+
+/// Takes a file below a root away.
+pub(crate) fn remove_file<R: Files + AllocGlobal>(
+    rt: &R,
+    root: &str,
+    noted: &Noted,
+) -> Result<(), DiskError> {
+    let at = join(rt.alloc(), root, noted.path())?;
+    Ok(fs::remove_file(rt, at.as_str())?)
 }

@@ -125,7 +125,10 @@ impl<R: Files + AllocGlobal + Print + Clone + Drop> Device for FolderDevice<R> {
     fn sync(&mut self) -> Result<(), DeviceError> {
         let answer = self.tree.sync();
         self.counts.ticked(&answer);
-        answer
+        match answer {
+            Ok(_) => Ok(()),
+            Err(fault) => Err(fault),
+        }
     }
 
     fn say(&mut self, bytes: &[u8]) -> Result<(), DeviceError> {

@@ -1,10 +1,10 @@
 ghost use Rattle.std.specs.Prelude.{◌≡◌, ◌<◌, Some, IfOk, length, slice_get};
 ghost use Rattle.rocks_outside.specs.Shelf.{CountsFaults, IsRead, IsWithin, IsFolderListing};
 
+use crate::disk;
 use crate::disk::Stands;
 use crate::known_folders::KnownFolders;
-use crate::listing::paths_below;
-use crate::{disk, place};
+use disk_paths::{paths_below, place};
 use rocks_bytes::{Bytes, Text};
 use rocks_outside::{Shelf, ShelfError, ShelfRead};
 use rocks_text::FilePath;

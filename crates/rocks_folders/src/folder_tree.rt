@@ -1,18 +1,16 @@
-ghost use Rattle.std.specs.Prelude.{◌≡◌, ◌↔◌, ◌++◌, [], IfOk, IfErr, IsErr, OnOk, OnErr};
-ghost use Rattle.rocks_folders.specs.Places.{changed_at};
-ghost use Rattle.rocks_folders.specs.Unsynced.{AreKept, AreSamePaths};
+ghost use Rattle.std.specs.Prelude.{◌≡◌, ◌↔◌, ◌⊎◌, ◌++◌, [], map, IfOk, IfErr, IsErr, OnOk, OnErr};
+ghost use Rattle.disk_paths.specs.Places.{changed_at, whole_of};
+ghost use Rattle.disk_paths.specs.Unsynced.{AreKept, AreSamePaths, AreSynced};
 ghost use Rattle.rocks_outside.specs.Device.{IsListing};
 
-use crate::disk::{DiskError, Stands};
+use crate::disk;
+use crate::disk::Stands;
 use crate::known_folders::KnownFolders;
-use crate::listing::paths_from;
-use crate::unsynced::Unsynced;
-use crate::{disk, place};
+use disk_paths::{AllSynced, DiskError, Noted, Unsynced, paths_from};
 use rocks_bytes::Text;
 use rocks_outside::DeviceError;
 use rocks_text::TreePath;
 use std::alloc::Global;
-use std::fs;
 use std::rt::Files;
 
 /// The files of a tree in a real folder.
@@ -70,13 +68,16 @@ impl<R: Files + AllocGlobal + Clone + Drop> FolderTree<R> {
         ensures kept { AreKept self.old.unsynced.paths.items self.new.unsynced.paths.items }
     {
         self.stands_for_a_file(path)?;
-        self.unsynced.note(self.rt.alloc(), path.as_str())?;
-        after_a_change(self.put(path.as_str(), bytes))
+        let noted = self.unsynced.note(self.rt.alloc(), path.as_str())?;
+        after_a_change(self.put(&noted, bytes))
     }
 
     /// Moves a file, in place of what was at the new path. It does nothing where the old path has no file.
     pub(crate) fn rename(&mut self, from: &TreePath, to: &TreePath) -> Result<(), DeviceError>
-        ensures { AreKept self.old.unsynced.paths.items self.new.unsynced.paths.items }
+        ensures noted { OnOk result ((self.new.unsynced ≡ self.old.unsynced)
+            ⊎ (self.new.unsynced.paths.items
+            ≡ self.old.unsynced.paths.items ++ changed_at from.now ++ changed_at to.now)) }
+        ensures kept { AreKept self.old.unsynced.paths.items self.new.unsynced.paths.items }
     {
         match self.stands(from)? {
             Stands::Nothing | Stands::Folder => return Ok(()),
@@ -89,7 +90,10 @@ impl<R: Files + AllocGlobal + Clone + Drop> FolderTree<R> {
 
     /// Takes a file away. It does nothing where the path has no file.
     pub(crate) fn remove(&mut self, path: &TreePath) -> Result<(), DeviceError>
-        ensures { AreKept self.old.unsynced.paths.items self.new.unsynced.paths.items }
+        ensures noted { OnOk result ((self.new.unsynced ≡ self.old.unsynced)
+            ⊎ (self.new.unsynced.paths.items
+            ≡ self.old.unsynced.paths.items ++ changed_at path.now)) }
+        ensures kept { AreKept self.old.unsynced.paths.items self.new.unsynced.paths.items }
     {
         match self.stands(path)? {
             Stands::Nothing | Stands::Folder => return Ok(()),
@@ -99,8 +103,13 @@ impl<R: Files + AllocGlobal + Clone + Drop> FolderTree<R> {
         self.take_away(path)
     }
 
-    /// Makes all changes so far durable. What has changed stays noted until this answers `Ok`.
-    pub(crate) fn sync(&mut self) -> Result<(), DeviceError>
+    /// Makes all changes so far durable, and answers what it has made so. What has changed stays noted until this
+    /// answers `Ok`.
+    pub(crate) fn sync(&mut self) -> Result<AllSynced, DeviceError>
+        ensures synced { IfOk result (λ all. AreSynced self.old.root self.old.unsynced.paths.items
+            (map (λ synced. synced.at) all.below.items)) }
+        ensures outside { IfOk result (λ all. map (λ synced. synced.at) all.above.items
+            ≡ map (whole_of []) self.old.unsynced.above.items) }
         ensures done { OnOk result (self.new.unsynced.paths.items ≡ []) }
         ensures kept { OnErr result
             (AreSamePaths self.old.unsynced.paths.items self.new.unsynced.paths.items) }
@@ -133,15 +142,11 @@ impl<R: Files + AllocGlobal + Clone + Drop> FolderTree<R> {
         ensures kept { AreKept self.old.unsynced.paths.items self.new.unsynced.paths.items }
     {
         let alloc = self.rt.alloc();
-        let old = place::join(alloc, self.root.as_str(), from.as_str())?;
-        let new = place::join(alloc, self.root.as_str(), to.as_str())?;
-        self.unsynced.note(alloc, from.as_str())?;
-        self.unsynced.note(alloc, to.as_str())?;
-        after_a_change(self.make_above(to.as_str()))?;
-        if fs::rename(&self.rt, old.as_str(), new.as_str()).is_err() {
-            return Err(DeviceError::Failed);
-        }
-        after_a_change(self.remove_empty_above(from.as_str()))
+        let old = self.unsynced.note(alloc, from.as_str())?;
+        let new = self.unsynced.note(alloc, to.as_str())?;
+        after_a_change(self.make_above(&new))?;
+        after_a_change(disk::move_file(&self.rt, self.root.as_str(), &old, &new))?;
+        after_a_change(self.remove_empty_above(&old))
     }
 
     fn take_away(&mut self, path: &TreePath) -> Result<(), DeviceError>
@@ -149,39 +154,35 @@ impl<R: Files + AllocGlobal + Clone + Drop> FolderTree<R> {
             ≡ self.old.unsynced.paths.items ++ changed_at path.now) }
         ensures kept { AreKept self.old.unsynced.paths.items self.new.unsynced.paths.items }
     {
-        let alloc = self.rt.alloc();
-        let at = place::join(alloc, self.root.as_str(), path.as_str())?;
-        self.unsynced.note(alloc, path.as_str())?;
-        if fs::remove_file(&self.rt, at.as_str()).is_err() {
-            return Err(DeviceError::Failed);
-        }
-        after_a_change(self.remove_empty_above(path.as_str()))
+        let noted = self.unsynced.note(self.rt.alloc(), path.as_str())?;
+        after_a_change(disk::remove_file(&self.rt, self.root.as_str(), &noted))?;
+        after_a_change(self.remove_empty_above(&noted))
     }
 
-    fn put(&mut self, path: &str, bytes: &[u8]) -> Result<(), DiskError>
+    fn put(&mut self, noted: &Noted, bytes: &[u8]) -> Result<(), DiskError>
         ensures { self.new.unsynced.paths.items ≡ self.old.unsynced.paths.items }
     {
-        self.make_above(path)?;
-        disk::write_whole(&self.rt, self.root.as_str(), path, bytes)
+        self.make_above(noted)?;
+        disk::write_whole(&self.rt, self.root.as_str(), noted, bytes)
     }
 
     // Makes the tree's folder and those above the path where they are missing.
-    fn make_above(&mut self, path: &str) -> Result<(), DiskError>
+    fn make_above(&mut self, noted: &Noted) -> Result<(), DiskError>
         ensures { self.new.unsynced.paths.items ≡ self.old.unsynced.paths.items }
     {
         if !self.known.has_root(&self.rt, self.root.as_str())? {
             let made = disk::missing_above(&self.rt, self.root.as_str())?;
-            self.unsynced.note_above(made)?;
-            fs::create_dir_all(&self.rt, self.root.as_str())?;
+            let noted = self.unsynced.note_above(self.rt.alloc(), made)?;
+            disk::make_root(&self.rt, self.root.as_str(), &noted)?;
         }
-        self.known.make_above(&self.rt, self.root.as_str(), path)
+        self.known.make_above(&self.rt, self.root.as_str(), noted)
     }
 
-    fn remove_empty_above(&mut self, path: &str) -> Result<(), DiskError>
+    fn remove_empty_above(&mut self, noted: &Noted) -> Result<(), DiskError>
         ensures { self.new.unsynced ≡ self.old.unsynced }
     {
         self.known
-            .remove_empty_above(&self.rt, self.root.as_str(), path)
+            .remove_empty_above(&self.rt, self.root.as_str(), noted)
     }
 }
 

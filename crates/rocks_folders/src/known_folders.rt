@@ -1,5 +1,6 @@
-use crate::disk::{DiskError, Stands};
-use crate::{disk, place};
+use crate::disk;
+use crate::disk::Stands;
+use disk_paths::{DiskError, Noted, place};
 use std::alloc::Global;
 use std::collections::BTreeSet;
 use std::rt::Files;
@@ -69,9 +70,9 @@ impl KnownFolders {
         &mut self,
         rt: &R,
         root: &str,
-        path: &str,
+        noted: &Noted,
     ) -> Result<(), DiskError> {
-        for folder in &place::folders_of(rt.alloc(), path)? {
+        for folder in &place::folders_of(rt.alloc(), noted.path())? {
             match self.stands_folder(rt, root, folder.as_str())? {
                 Stands::Folder => {}
                 Stands::Nothing => {
@@ -90,9 +91,9 @@ impl KnownFolders {
         &mut self,
         rt: &R,
         root: &str,
-        path: &str,
+        noted: &Noted,
     ) -> Result<(), DiskError> {
-        for folder in place::folders_of(rt.alloc(), path)?.iter().rev() {
+        for folder in &place::folders_outward(rt.alloc(), noted.path())? {
             let at = place::join(rt.alloc(), root, folder.as_str())?;
             self.below.remove(at.as_str());
             match fs::remove_dir(rt, at.as_str()) {

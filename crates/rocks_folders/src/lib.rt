@@ -7,10 +7,7 @@ mod folder_device;
 mod folder_shelf;
 mod folder_tree;
 mod known_folders;
-mod listing;
-mod place;
 mod std_source;
-mod unsynced;
 
 pub use folder_device::FolderDevice;
 pub use folder_shelf::FolderShelf;

@@ -1,15 +1,5 @@
-//! Tests that go by public calls of several crates.
+//! Tests of whole runs, by their public calls.
 #![tactic(auto)]
 
 #[cfg(test)]
-mod calls;
-#[cfg(test)]
-mod folders;
-#[cfg(test)]
-mod outside;
-#[cfg(test)]
-mod places;
-#[cfg(test)]
 mod session;
-#[cfg(test)]
-mod texts;

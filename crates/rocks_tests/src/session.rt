@@ -4,296 +4,271 @@ mod failing;
 
 use failing::{FailingDevice, FailingShelf};
 use rocks_outside::{Device, MemoryDevice, MemoryShelf, MemorySource, Shelf};
-use rocks_session::{Command, Status, read_words, roots, run};
+use rocks_session::{Command, RootWords, Status, read_words, roots, run};
 use rocks_text::{FilePath, TreePath};
-use std::alloc::Global;
 use std::process::Abort;
-use std::test::Fail;
 
 const ROCKSPEC: &str = "package = \"Hello\"\nversion = \"1.0-1\"\n";
 
 const SPEC_PLACE: &str = "lib/luarocks/rocks-5.4/hello/1.0-1/hello-1.0-1.rockspec";
 
-fn words(alloc: Global, text: &str) -> Result<Vec<String>, Fail> {
-    let mut words = Vec::new(alloc);
+const ADD: &str = "--tree T --from S add hello 1.0-1";
+
+const ADDED: &str = "+ hello 1.0-1\nok\n";
+
+fn words(rt: &(impl Abort + AllocGlobal), text: &str) -> Vec<String> {
+    let mut words = Vec::new(rt.alloc());
     for word in text.split_whitespace() {
-        words.push(String::from_str(alloc, word)?)?;
+        words.push(owned(rt, word)).expect(rt, "memory");
     }
-    Ok(words)
+    words
+}
+
+fn owned(rt: &(impl Abort + AllocGlobal), word: &str) -> String {
+    String::from_str(rt.alloc(), word).expect(rt, "memory")
+}
+
+fn no_input(rt: &(impl Abort + AllocGlobal)) -> MemorySource {
+    MemorySource::new(Vec::new(rt.alloc()), 1, None)
+}
+
+fn device(rt: &(impl Abort + AllocGlobal)) -> MemoryDevice {
+    MemoryDevice::new(rt.alloc()).expect(rt, "memory")
 }
 
 fn put(
-    rt: &impl Abort,
-    alloc: Global,
+    rt: &(impl Abort + AllocGlobal),
     shelf: &mut MemoryShelf,
     server: u32,
     path: &str,
     bytes: &str,
-) -> Result<(), Fail> {
-    let path = FilePath::from_text(alloc, path)?;
+) {
+    let path = FilePath::from_text(rt.alloc(), path).expect(rt, path);
     assert!(rt; server < shelf.servers());
-    assert!(rt; shelf.put(server, &path, bytes.as_bytes())?);
-    Ok(())
+    let taken = shelf.put(server, &path, bytes.as_bytes());
+    assert!(rt; taken.expect(rt, "memory"));
+}
+
+// Two servers with a rock, of which the first is taken.
+fn hello(rt: &(impl Abort + AllocGlobal)) -> MemoryShelf {
+    let mut shelf = MemoryShelf::new(rt.alloc(), 2).expect(rt, "memory");
+    let rockspec = "hello-1.0-1.rock/hello-1.0-1.rockspec";
+    put(rt, &mut shelf, 0, rockspec, ROCKSPEC);
+    put(rt, &mut shelf, 0, "hello-1.0-1.rock/lua/h.lua", "a");
+    put(rt, &mut shelf, 0, "hello-1.0-1.rock/lua/h/i.lua", "b");
+    put(rt, &mut shelf, 1, rockspec, "later");
+    shelf
 }
 
 // Runs the words, and looks at the status's code and at all that was said so far.
 fn runs(
-    rt: &impl Abort,
-    alloc: Global,
+    rt: &(impl Abort + AllocGlobal),
     device: &mut MemoryDevice,
     shelf: &mut MemoryShelf,
     text: &str,
     code: u8,
     said: &str,
-) -> Result<Status, Fail> {
-    let words = words(alloc, text)?;
-    let mut input = MemorySource::new(Vec::new(alloc), 1, None);
-    let status = run(alloc, &words, device, shelf, &mut input);
-    assert_eq!(rt; status.code(), code, "of {text}");
+) -> Status {
+    let words = words(rt, text);
+    let status = run(rt.alloc(), &words, device, shelf, &mut no_input(rt));
+    assert!(rt; status.code() == code, "of {text}");
     assert!(rt; device.said() == said.as_bytes(), "by {text}");
-    Ok(status)
+    status
 }
 
 // Looks at what a device holds at a path.
-fn holds(
-    rt: &impl Abort,
-    alloc: Global,
-    device: &mut MemoryDevice,
-    path: &str,
-    bytes: &str,
-) -> Result<(), Fail> {
-    let path = TreePath::from_text(alloc, path)?;
-    match device.read(alloc, &path)? {
-        Some(found) => assert!(rt; found.as_slice() == bytes.as_bytes()),
-        None => assert!(rt; false, "no file"),
-    }
-    Ok(())
+fn holds(rt: &(impl Abort + AllocGlobal), device: &mut MemoryDevice, path: &str, bytes: &str) {
+    let at = TreePath::from_text(rt.alloc(), path).expect(rt, path);
+    let read = device.read(rt.alloc(), &at).expect(rt, "a read");
+    assert!(rt;
+        read.expect(rt, path).as_slice() == bytes.as_bytes(),
+        "{path}"
+    );
 }
 
-fn hello(rt: &impl Abort, alloc: Global) -> Result<MemoryShelf, Fail> {
-    let mut shelf = MemoryShelf::new(alloc, 2)?;
-    put(
-        rt,
-        alloc,
-        &mut shelf,
-        0,
-        "hello-1.0-1.rock/hello-1.0-1.rockspec",
-        ROCKSPEC,
-    )?;
-    put(rt, alloc, &mut shelf, 0, "hello-1.0-1.rock/lua/h.lua", "a")?;
-    put(
-        rt,
-        alloc,
-        &mut shelf,
-        0,
-        "hello-1.0-1.rock/lua/h/i.lua",
-        "b",
-    )?;
-    put(
-        rt,
-        alloc,
-        &mut shelf,
-        1,
-        "hello-1.0-1.rock/hello-1.0-1.rockspec",
-        "later",
-    )?;
-    Ok(shelf)
+// How many files a device holds.
+fn count(rt: &(impl Abort + AllocGlobal), device: &mut MemoryDevice) -> usize {
+    device.list(rt.alloc(), "").expect(rt, "a listing").len()
 }
 
 #[test]
-fn an_unpacked_rock_is_added_to_an_empty_tree(rt: HostRuntime) -> Result<(), Fail> {
-    let alloc = rt.alloc();
-    let mut shelf = hello(&rt, alloc)?;
-    let mut device = MemoryDevice::new(alloc)?;
+fn an_unpacked_rock_is_added_to_an_empty_tree(rt: HostRuntime) {
+    let mut shelf = hello(&rt);
+    let mut device = device(&rt);
     let line = "--tree T --from S --from L add Hello 1.0-1";
-    let _ = runs(
-        &rt,
-        alloc,
-        &mut device,
-        &mut shelf,
-        line,
-        0,
-        "+ hello 1.0-1\nok\n",
-    )?;
-    holds(&rt, alloc, &mut device, SPEC_PLACE, ROCKSPEC)?;
-    holds(&rt, alloc, &mut device, "share/lua/5.4/h.lua", "a")?;
-    holds(&rt, alloc, &mut device, "share/lua/5.4/h/i.lua", "b")?;
-    assert_eq!(rt; device.list(alloc, "")?.len(), 3);
+    runs(&rt, &mut device, &mut shelf, line, 0, ADDED);
+    holds(&rt, &mut device, SPEC_PLACE, ROCKSPEC);
+    holds(&rt, &mut device, "share/lua/5.4/h.lua", "a");
+    holds(&rt, &mut device, "share/lua/5.4/h/i.lua", "b");
+    assert_eq!(rt; count(&rt, &mut device), 3);
     assert_eq!(rt; device.clock(), 5);
 
     // The tree can't be opened again yet.
-    let status = runs(
-        &rt,
-        alloc,
-        &mut device,
-        &mut shelf,
-        line,
-        7,
-        "+ hello 1.0-1\nok\n",
-    )?;
-    match &status {
-        Status::Damaged { path } => assert_eq!(rt; path.as_str(), SPEC_PLACE),
-        _ => assert!(rt; false, "not damaged"),
-    }
+    let status = runs(&rt, &mut device, &mut shelf, line, 7, ADDED);
+    assert!(rt; is_damaged(&status, SPEC_PLACE));
     assert_eq!(rt; device.clock(), 5);
-    Ok(())
+}
+
+fn is_damaged(status: &Status, at: &str) -> bool {
+    match status {
+        Status::Damaged { path } => path.as_str() == at,
+        _ => false,
+    }
+}
+
+// A command on an empty tree is refused, and changes no file.
+fn is_refused(rt: &(impl Abort + AllocGlobal), shelf: &mut MemoryShelf, line: &str, refusal: &str) {
+    let mut device = device(rt);
+    runs(rt, &mut device, shelf, line, 1, refusal);
+    assert!(rt; count(rt, &mut device) == 0, "{line}");
+    assert!(rt; device.clock() == 1, "{line}");
 }
 
 #[test]
-fn a_refused_command_changes_no_file(rt: HostRuntime) -> Result<(), Fail> {
-    let alloc = rt.alloc();
-    let mut shelf = hello(&rt, alloc)?;
-    let mut device = MemoryDevice::new(alloc)?;
-    let none = "refused NoRock hello 2.0-1\n";
-    let _ = runs(
-        &rt,
-        alloc,
-        &mut device,
-        &mut shelf,
-        "--tree T --from S add hello 2.0-1",
-        1,
-        none,
-    )?;
-    let mut device = MemoryDevice::new(alloc)?;
-    let provided = "refused Provided\n";
-    let _ = runs(
-        &rt,
-        alloc,
-        &mut device,
-        &mut shelf,
-        "--tree T --from S add lua 5.4-1",
-        1,
-        provided,
-    )?;
-    let mut device = MemoryDevice::new(alloc)?;
-    put(&rt, alloc, &mut shelf, 0, "hello-1.0-1.rock/bin/h", "h")?;
-    let not_served = "refused NotServed hello 1.0-1\n";
-    let _ = runs(
-        &rt,
-        alloc,
-        &mut device,
-        &mut shelf,
-        "--tree T --from S add hello 1.0-1",
-        1,
-        not_served,
-    )?;
-    assert_eq!(rt; device.list(alloc, "")?.len(), 0);
-    assert_eq!(rt; device.clock(), 1);
-    Ok(())
+fn a_refused_command_changes_no_file(rt: HostRuntime) {
+    let mut shelf = hello(&rt);
+    let line = "--tree T --from S add hello 2.0-1";
+    is_refused(&rt, &mut shelf, line, "refused NoRock hello 2.0-1\n");
+    let line = "--tree T --from S add lua 5.4-1";
+    is_refused(&rt, &mut shelf, line, "refused Provided\n");
+    put(&rt, &mut shelf, 0, "hello-1.0-1.rock/bin/h", "h");
+    is_refused(&rt, &mut shelf, ADD, "refused NotServed hello 1.0-1\n");
 }
 
-#[test]
-fn faulty_words_call_nothing(rt: HostRuntime) -> Result<(), Fail> {
-    let alloc = rt.alloc();
-    let mut shelf = hello(&rt, alloc)?;
-    let mut device = MemoryDevice::new(alloc)?;
-    for line in [
-        "",
-        "add hello 1.0-1",
-        "--tree T",
-        "--tree T add",
-        "--tree T add hello",
-        "--tree T add hello 1.0",
-        "--tree T add hello 1.0-1 x",
-        "--tree T add manifest 1.0-1",
-        "--tree T add hello 1.0-1234567890123456789",
-        "--from S --tree T add hello 1.0-1",
-        "--tree T --from 1 --from 2 --from 3 --from 4 --from 5 --from 6 --from 7 --from 8 --from 9 \
+const FAULTY: [&str; 13] = [
+    "",
+    "add hello 1.0-1",
+    "--tree T",
+    "--tree T add",
+    "--tree T add hello",
+    "--tree T add hello 1.0",
+    "--tree T add hello 1.0-1 x",
+    "--tree T add manifest 1.0-1",
+    "--tree T add hello 1.0-1234567890123456789",
+    "--from S --tree T add hello 1.0-1",
+    "--tree T --from 1 --from 2 --from 3 --from 4 --from 5 --from 6 --from 7 --from 8 --from 9 \
 add hello 1.0-1",
-        "--tree T add --tree x",
-        "--tree T remove hello",
-    ] {
-        let _ = runs(&rt, alloc, &mut device, &mut shelf, line, 2, "")?;
+    "--tree T add --tree x",
+    "--tree T remove hello",
+];
+
+#[test]
+fn faulty_words_call_nothing(rt: HostRuntime) {
+    let mut shelf = hello(&rt);
+    let mut device = device(&rt);
+    for line in &FAULTY {
+        runs(&rt, &mut device, &mut shelf, line, 2, "");
     }
     assert_eq!(rt; device.clock(), 0);
-    Ok(())
+}
+
+const TWO_SERVERS: &str = "--tree T --from S --from --tree add a_B 1.0.rc-2";
+
+// The folders that the words name, from a copy.
+fn root_words(rt: &(impl Abort + AllocGlobal), words: &[String]) -> RootWords {
+    let read = roots(rt.alloc(), words).ok().expect(rt, "roots");
+    read.copy(rt.alloc()).expect(rt, "memory")
+}
+
+// The command that the words say, from a copy.
+fn command(rt: &(impl Abort + AllocGlobal), words: &[String]) -> Command {
+    let read = read_words(rt.alloc(), words).ok().expect(rt, "a command");
+    read.copy(rt.alloc()).expect(rt, "memory")
 }
 
 #[test]
-fn words_name_the_tree_and_the_servers(rt: HostRuntime) -> Result<(), Fail> {
-    let alloc = rt.alloc();
-    let words = words(alloc, "--tree T --from S --from --tree add a_B 1.0.rc-2")?;
-    let roots = roots(alloc, &words).ok().ok_or("refused")?.copy(alloc)?;
-    assert_eq!(rt; roots.tree.as_str(), "T");
-    assert_eq!(rt; roots.servers.len(), 2);
-    let command = read_words(alloc, &words).ok().ok_or("refused")?;
-    let Command::Add(key) = command.copy(alloc)?;
-    let copied = key.copy(alloc)?;
-    assert_eq!(rt; copied.name.as_str(), "a_b");
-    assert_eq!(rt; copied.version.as_str(), "1.0.rc-2");
-    Ok(())
+fn words_name_the_tree_and_the_servers(rt: HostRuntime) {
+    let roots = root_words(&rt, &words(&rt, TWO_SERVERS));
+    assert!(rt; roots.tree.as_str() == "T");
+    assert!(rt; roots.servers.len() == 2);
+}
+
+#[test]
+fn words_say_the_command(rt: HostRuntime) {
+    let Command::Add(key) = command(&rt, &words(&rt, TWO_SERVERS));
+    let copied = key.copy(rt.alloc()).expect(&rt, "memory");
+    assert!(rt; copied.name.as_str() == "a_b");
+    assert!(rt; copied.version.as_str() == "1.0.rc-2");
+}
+
+fn calls(rt: &(impl Abort + AllocGlobal), line: &str, calls: &[&str]) {
+    let mut device = FailingDevice::new(rt.alloc(), u64::MAX);
+    let words = words(rt, line);
+    let mut shelf = hello(rt);
+    run(
+        rt.alloc(),
+        &words,
+        &mut device,
+        &mut shelf,
+        &mut no_input(rt),
+    );
+    assert!(rt; device.calls.as_slice() == calls, "{line}");
 }
 
 // Clauses can't speak yet of what a crash may leave, so the order of the calls is looked at.
 #[test]
-fn what_is_written_is_synced_and_then_said(rt: HostRuntime) -> Result<(), Fail> {
-    let alloc = rt.alloc();
-    for (line, calls) in [
-        (
-            "--tree T --from S add hello 1.0-1",
-            ["list", "write", "write", "write", "sync", "say"].as_slice(),
-        ),
-        (
-            "--tree T --from S add hello 2.0-1",
-            ["list", "say"].as_slice(),
-        ),
-        (
-            "--tree T --from S add lua 5.4-1",
-            ["list", "say"].as_slice(),
-        ),
-    ] {
-        let mut shelf = hello(&rt, alloc)?;
-        let mut device = FailingDevice::new(alloc, u64::MAX);
-        let mut input = MemorySource::new(Vec::new(alloc), 1, None);
-        let _ = run(
-            alloc,
-            &words(alloc, line)?,
-            &mut device,
-            &mut shelf,
-            &mut input,
-        );
-        assert!(rt; device.calls.as_slice() == calls, "{line}");
-    }
-    Ok(())
+fn what_is_written_is_synced_and_then_said(rt: HostRuntime) {
+    calls(
+        &rt,
+        ADD,
+        &["list", "write", "write", "write", "sync", "say"],
+    );
+    calls(&rt, "--tree T --from S add hello 2.0-1", &["list", "say"]);
+    calls(&rt, "--tree T --from S add lua 5.4-1", &["list", "say"]);
 }
 
-#[test]
-fn a_device_that_fails_in_mid_run_is_a_device_fault(rt: HostRuntime) -> Result<(), Fail> {
-    let alloc = rt.alloc();
-    let words = words(alloc, "--tree T --from S add hello 1.0-1")?;
-    // The listing, three writes, the sync and the reply, and then none.
-    for (calls_left, code, said) in [
-        (0, 4, ""),
-        (1, 4, ""),
-        (3, 4, ""),
-        (4, 4, ""),
-        (5, 4, "+"),
-        (6, 0, "+ hello 1.0-1\nok\n"),
-    ] {
-        let mut shelf = hello(&rt, alloc)?;
-        let mut device = FailingDevice::new(alloc, calls_left);
-        let mut input = MemorySource::new(Vec::new(alloc), 1, None);
-        let status = run(alloc, &words, &mut device, &mut shelf, &mut input);
-        assert_eq!(rt; status.code(), code);
-        assert!(rt; device.said.as_slice() == said.as_bytes());
-    }
-    Ok(())
+// A device on which so many calls are done and then none.
+fn device_fails(rt: &(impl Abort + AllocGlobal), calls_left: u64, code: u8, said: &str) {
+    let mut device = FailingDevice::new(rt.alloc(), calls_left);
+    let words = words(rt, ADD);
+    let mut shelf = hello(rt);
+    let status = run(
+        rt.alloc(),
+        &words,
+        &mut device,
+        &mut shelf,
+        &mut no_input(rt),
+    );
+    assert!(rt; status.code() == code, "after {calls_left}");
+    assert!(rt;
+        device.said.as_slice() == said.as_bytes(),
+        "after {calls_left}"
+    );
 }
 
+// The calls are the listing, three writes, the sync and the reply.
 #[test]
-fn a_shelf_that_fails_in_mid_run_is_a_shelf_fault(rt: HostRuntime) -> Result<(), Fail> {
-    let alloc = rt.alloc();
-    let words = words(alloc, "--tree T --from S add hello 1.0-1")?;
-    // The rockspec, the listing and two modules, and then none.
-    for (calls_left, code) in [(0, 5), (1, 5), (2, 5), (3, 5), (4, 0)] {
-        let mut shelf = FailingShelf::new(hello(&rt, alloc)?, calls_left);
-        let mut device = MemoryDevice::new(alloc)?;
-        let mut input = MemorySource::new(Vec::new(alloc), 1, None);
-        let status = run(alloc, &words, &mut device, &mut shelf, &mut input);
-        assert_eq!(rt; status.code(), code);
-        if code == 5 {
-            assert_eq!(rt; device.clock(), 0);
-        }
-    }
-    Ok(())
+fn a_device_that_fails_in_mid_run_is_a_device_fault(rt: HostRuntime) {
+    device_fails(&rt, 0, 4, "");
+    device_fails(&rt, 1, 4, "");
+    device_fails(&rt, 3, 4, "");
+    device_fails(&rt, 4, 4, "");
+    device_fails(&rt, 5, 4, "+");
+    device_fails(&rt, 6, 0, ADDED);
+}
+
+// A shelf on which so many calls are done and then none. The clock tells whether a file was changed.
+fn shelf_fails(rt: &(impl Abort + AllocGlobal), calls_left: u64, code: u8, clock: u64) {
+    let mut shelf = FailingShelf::new(hello(rt), calls_left);
+    let mut device = device(rt);
+    let words = words(rt, ADD);
+    let status = run(
+        rt.alloc(),
+        &words,
+        &mut device,
+        &mut shelf,
+        &mut no_input(rt),
+    );
+    assert!(rt; status.code() == code, "after {calls_left}");
+    assert!(rt; device.clock() == clock, "after {calls_left}");
+}
+
+// The calls are the rockspec, the listing and two modules.
+#[test]
+fn a_shelf_that_fails_in_mid_run_is_a_shelf_fault(rt: HostRuntime) {
+    shelf_fails(&rt, 0, 5, 0);
+    shelf_fails(&rt, 1, 5, 0);
+    shelf_fails(&rt, 2, 5, 0);
+    shelf_fails(&rt, 3, 5, 0);
+    shelf_fails(&rt, 4, 0, 5);
 }

@@ -1,0 +1,7 @@
+//! Tests of texts and places, by their public calls.
+#![tactic(auto)]
+
+#[cfg(test)]
+mod places;
+#[cfg(test)]
+mod texts;
