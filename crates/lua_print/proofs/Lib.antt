@@ -1,3 +1,3 @@
+pub mod Left
 pub mod Tables
-pub mod Values
 pub mod Walk

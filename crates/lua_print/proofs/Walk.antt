@@ -1,6 +1,5 @@
 -- Positions found on the way through a table are those of the definition.
-use Rattle.std.proofs.Common.{◌≡◌, ℕ, zero, suc, ◌+◌, ◌<◌, ◌==◌, Bool, true, false, cond, ◌&&◌, ◌||◌, List, [], ◌∷◌, ◌++◌, drop, Some, refl, sym, ap, ◌∙◌, subst, append_assoc, add-one, arith, ◌⊎◌, inl, inr}
-use Rattle.std.specs.List.{slice_get}
+use Rattle.std.proofs.Common.{◌≡◌, ℕ, zero, suc, ◌+◌, ◌<◌, ◌==◌, Bool, true, false, cond, ◌&&◌, ◌||◌, List, [], ◌∷◌, ◌++◌, refl, sym, ap, ◌∙◌, subst, append_assoc, add-one, arith, ◌⊎◌, inl, inr}
 use Rattle.std.specs.declared.cmp.Ordering.{Ordering}
 use Rattle.std.specs.declared.cmp.Ordering.TheVariants.{Less, Equal, Greater}
 use Rattle.std.specs.Ordering.{is_eq, nat_cmp}
@@ -8,10 +7,9 @@ use Rattle.std.proofs.lemmas.Bool.{lt-ltb, eq-eqb, ne_eqb, eqb-true, and_parts, 
 use Rattle.std.proofs.lemmas.Cmp.{ranked}
 use Rattle.lua_value.specs.declared.key.Key.{Key}
 use Rattle.lua_value.specs.declared.key.Key.TheVariants.{Int, Text, Bool as Truth}
-use Rattle.lua_value.specs.declared.table.Value.{Value}
 use Rattle.lua_value.specs.Key.{key_cmp}
-use Rattle.lua_value.specs.Pairs.{Pairs, keys}
-use Rattle.lua_value.specs.Ordered.{IsBeforeAll, IsOrderedPairs}
+use Rattle.lua_value.specs.Pairs.{Pairs, no_pairs, with_pair, keys}
+use Rattle.lua_value.specs.Ordered.{IsBeforeAll, IsOrdered}
 use Rattle.lua_value.proofs.KeyOrder.{key_cmp-itself, key_cmp-trans, less_turned}
 use Rattle.lua_value.proofs.Puts.{IsBeforeAll-trans}
 use Rattle.lua_print.specs.Printed.{has_key, reaches, is_position, key_text, value_text, entries_text}
@@ -19,9 +17,9 @@ use Rattle.lua_print.specs.Steps.{is_number_key, entry_text}
 
 -- the entries from one on before which m positions came
 abbrev pub walk_text : List ℕ → ℕ → Pairs → List ℕ
-walk_text indent m [] = []
-walk_text indent m (pair ∷ rest) =
-    entry_text indent (is_number_key pair.0 (m + 1)) pair.0 pair.1 ++ walk_text indent (cond (is_number_key pair.0 (m + 1)) (m + 1) m) rest
+walk_text indent m no_pairs = []
+walk_text indent m (with_pair key value rest) =
+    entry_text indent (is_number_key key (m + 1)) key value ++ walk_text indent (cond (is_number_key key (m + 1)) (m + 1) m) rest
 
 has_key-append : (fs gs : List Key) (key : Key) → has_key (fs ++ gs) key ≡ has_key fs key || has_key gs key
 has_key-append [] gs key = refl
@@ -161,39 +159,30 @@ seen_more fs key m before seen = by_cases (is_number_key key (m + 1)) refl
 
 -- the first of the pairs comes after the keys
 abbrev First : List Key → Pairs → Type 0
-First fs [] = Unit {0}
-First fs (pair ∷ rest) = AllBefore fs pair.0
+First fs no_pairs = Unit {0}
+First fs (with_pair key value rest) = AllBefore fs key
 
 first_next : (fs : List Key) (key : Key) (ps : Pairs) → AllBefore fs key → IsBeforeAll key (keys ps) → First (fs ++ key ∷ []) ps
-first_next fs key [] before after = tt
-first_next fs key (pair ∷ rest) before after = AllBefore-push fs key pair.0 (AllBefore-trans fs key pair.0 before after.0) after.0
+first_next fs key no_pairs before after = tt
+first_next fs key (with_pair next value rest) before after = AllBefore-push fs key next (AllBefore-trans fs key next before after.0) after.0
 
-walks : (indent : List ℕ) (ps : Pairs) (fs : List Key) (m : ℕ) → First fs ps → IsOrderedPairs ps → Seen fs m → walk_text indent m ps ≡ entries_text indent (fs ++ keys ps) ps
-walks indent [] fs m first h seen = refl
-walks indent (pair ∷ rest) fs m first h seen =
-    let b = is_number_key pair.0 (m + 1) in
-    let same = position-is fs pair.0 (keys rest) m first h.0 seen.reached seen.open_next in
-    let later = walks indent rest (fs ++ pair.0 ∷ []) (cond b (m + 1) m) (first_next fs pair.0 rest first h.0) h.4 (seen_more fs pair.0 m first seen) in
-    let all : List Key = fs ++ pair.0 ∷ keys rest in
-    append_assoc (indent ++ cond b [] (key_text pair.0) ++ value_text indent pair.1) (44 ∷ 10 ∷ []) _
-    ∙ ap (λ text. indent ++ cond b [] (key_text pair.0) ++ value_text indent pair.1 ++ 44 ∷ 10 ∷ text) (later ∙ ap (λ ks. entries_text indent ks rest) (append_assoc fs (pair.0 ∷ []) (keys rest)))
-    ∙ ap (λ p. indent ++ cond p [] (key_text pair.0) ++ value_text indent pair.1 ++ 44 ∷ 10 ∷ entries_text indent all rest) (sym same)
+walks : (indent : List ℕ) (ps : Pairs) (fs : List Key) (m : ℕ) → First fs ps → IsOrdered ps → Seen fs m → walk_text indent m ps ≡ entries_text indent (fs ++ keys ps) ps
+walks indent no_pairs fs m first h seen = refl
+walks indent (with_pair key value rest) fs m first h seen =
+    let b = is_number_key key (m + 1) in
+    let same = position-is fs key (keys rest) m first h.0 seen.reached seen.open_next in
+    let later = walks indent rest (fs ++ key ∷ []) (cond b (m + 1) m) (first_next fs key rest first h.0) h.4 (seen_more fs key m first seen) in
+    let all : List Key = fs ++ key ∷ keys rest in
+    append_assoc (indent ++ cond b [] (key_text key) ++ value_text indent value) (44 ∷ 10 ∷ []) _
+    ∙ ap (λ text. indent ++ cond b [] (key_text key) ++ value_text indent value ++ 44 ∷ 10 ∷ text) (later ∙ ap (λ ks. entries_text indent ks rest) (append_assoc fs (key ∷ []) (keys rest)))
+    ∙ ap (λ p. indent ++ cond p [] (key_text key) ++ value_text indent value ++ 44 ∷ 10 ∷ entries_text indent all rest) (sym same)
 
-pub walk_text-all : (indent : List ℕ) (ps : Pairs) → IsOrderedPairs ps → walk_text indent 0 ps ≡ entries_text indent (keys ps) ps
+pub walk_text-all : (indent : List ℕ) (ps : Pairs) → IsOrdered ps → walk_text indent 0 ps ≡ entries_text indent (keys ps) ps
 walk_text-all indent ps h = walks indent ps [] 0 (first_of ps) h (record { reached = refl; open_next = refl })
   where
     first_of : (ps : Pairs) → First [] ps
-    first_of [] = tt
-    first_of (pair ∷ rest) = tt
-
--- what is left at a place begins with the pair there
-pub drop-entry : (ps : Pairs) (i : ℕ) (x : Key × Value) → slice_get ps i ≡ Some x → drop i ps ≡ x ∷ drop (i + 1) ps
-drop-entry ps i x e = rw add-one (by_suc ps i x e)
-  where
-    by_suc : (ps : Pairs) (i : ℕ) (x : Key × Value) → slice_get ps i ≡ Some x → drop i ps ≡ x ∷ drop (suc i) ps
-    by_suc [] i x e = cc
-    by_suc (pair ∷ rest) zero x e = let same : pair ≡ x = cc in ap (λ p. p ∷ rest) same
-    by_suc (pair ∷ rest) (suc i) x e = by_suc rest i x e
+    first_of no_pairs = tt
+    first_of (with_pair key value rest) = tt
 
 -- a step that prints a line in front of what is left
 pub print_step : (out new line after text all : List ℕ) → new ≡ out ++ line → text ≡ line ++ after → out ++ text ≡ all → new ++ after ≡ all

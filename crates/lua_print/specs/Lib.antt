@@ -1,4 +1,3 @@
-pub mod Names
 pub mod Printed
 pub mod Quoted
 pub mod Steps

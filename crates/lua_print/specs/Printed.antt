@@ -3,14 +3,11 @@ use Rattle.std.specs.Prelude.{ℕ, zero, suc, Bool, true, false, ◌&&◌, nat_l
 use Rattle.std.specs.List.{list_any}
 use Rattle.std.specs.Fmt.{decimal}
 use Rattle.std.specs.Ordering.{is_eq}
+use Rattle.lua_names.specs.Names.{is_name}
 use Rattle.lua_value.specs.declared.key.Key.{Key}
 use Rattle.lua_value.specs.declared.key.Key.TheVariants.{Int as IntKey, Text as TextKey, Bool as TruthKey}
-use Rattle.lua_value.specs.declared.table.Value.{Value, Row_of-Table-entries-2, end_of-Table-entries-2, more_of-Table-entries-2}
-use Rattle.lua_value.specs.declared.table.Value.TheVariants.{Nil, Bool as Truth, Int, Text, Table'}
 use Rattle.lua_value.specs.Key.{key_cmp}
-use Rattle.lua_value.specs.Ordered.{row_keys}
-use Rattle.lua_value.specs.Pairs.{Pairs, keys}
-use Rattle.lua_print.specs.Names.{is_name}
+use Rattle.lua_value.specs.Pairs.{Datum, Pairs, nil, truth_value, int_value, text_value, table_value, no_pairs, with_pair, keys}
 use Rattle.lua_print.specs.Quoted.{quoted}
 
 abbrev pub truth_text : Bool → List ℕ
@@ -52,28 +49,22 @@ deeper indent = indent ++ codes "   "
 
 abbrev mutual
   -- a value on a line with this indentation
-  pub value_text : List ℕ → Value → List ℕ
-  value_text indent Nil = codes "nil"
-  value_text indent (Truth b) = truth_text b
-  value_text indent (Int n) = decimal n
-  value_text indent (Text bytes) = quoted bytes
-  value_text indent (Table' shape row) = braced indent (row_keys row) (row_text (deeper indent) (row_keys row) row)
+  pub value_text : List ℕ → Datum → List ℕ
+  value_text indent nil = codes "nil"
+  value_text indent (truth_value b) = truth_text b
+  value_text indent (int_value n) = decimal n
+  value_text indent (text_value bytes) = quoted bytes
+  value_text indent (table_value ps) = braced indent (keys ps) (entries_text (deeper indent) (keys ps) ps)
 
-  -- the same as entries_text, of a table within a value
-  pub row_text : {n : _} → List ℕ → List Key → Row_of-Table-entries-2 n → List ℕ
-  row_text indent ks end_of-Table-entries-2 = []
-  row_text indent ks (more_of-Table-entries-2 key value rest) =
-      indent ++ entry_key_text ks key ++ value_text indent value ++ 44 ∷ 10 ∷ row_text indent ks rest
-
--- entries of a table with these keys, each on lines of its own with this indentation, and with a comma behind it
-abbrev pub entries_text : List ℕ → List Key → Pairs → List ℕ
-entries_text indent ks [] = []
-entries_text indent ks (pair ∷ rest) =
-    indent ++ entry_key_text ks pair.0 ++ value_text indent pair.1 ++ 44 ∷ 10 ∷ entries_text indent ks rest
+  -- entries of a table with these keys, each on lines of its own with this indentation, and with a comma behind it
+  pub entries_text : List ℕ → List Key → Pairs → List ℕ
+  entries_text indent ks no_pairs = []
+  entries_text indent ks (with_pair key value rest) =
+      indent ++ entry_key_text ks key ++ value_text indent value ++ 44 ∷ 10 ∷ entries_text indent ks rest
 
 -- a table on a line with this indentation
 abbrev pub table_text : List ℕ → Pairs → List ℕ
-table_text indent ps = braced indent (keys ps) (entries_text (deeper indent) (keys ps) ps)
+table_text indent ps = value_text indent (table_value ps)
 
 -- the name of a global
 abbrev pub name_text : Key → List ℕ
@@ -83,8 +74,8 @@ name_text (TruthKey b) = []
 
 -- a table of globals: each as its name, ` = `, its value and a line feed
 abbrev pub globals_text : Pairs → List ℕ
-globals_text [] = []
-globals_text (pair ∷ rest) = name_text pair.0 ++ codes " = " ++ value_text [] pair.1 ++ 10 ∷ globals_text rest
+globals_text no_pairs = []
+globals_text (with_pair key value rest) = name_text key ++ codes " = " ++ value_text [] value ++ 10 ∷ globals_text rest
 
 -- the key is a name
 abbrev pub IsNameKey : Key → Type 0
@@ -94,5 +85,5 @@ IsNameKey (TruthKey b) = ⊥
 
 -- each key is a name
 abbrev pub HasNames : Pairs → Type 0
-HasNames [] = Unit {0}
-HasNames (pair ∷ rest) = IsNameKey pair.0 × HasNames rest
+HasNames no_pairs = Unit {0}
+HasNames (with_pair key value rest) = IsNameKey key × HasNames rest

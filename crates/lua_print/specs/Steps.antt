@@ -2,7 +2,7 @@
 use Rattle.std.specs.Prelude.{ℕ, Bool, false, ◌==◌, ◌++◌, List, [], ◌∷◌, if◌then◌else◌}
 use Rattle.lua_value.specs.declared.key.Key.{Key}
 use Rattle.lua_value.specs.declared.key.Key.TheVariants.{Int, Text, Bool as Truth}
-use Rattle.lua_value.specs.declared.table.Value.{Value}
+use Rattle.lua_value.specs.Pairs.{Datum}
 use Rattle.lua_print.specs.Printed.{key_text, value_text}
 
 -- the key is this integer
@@ -12,6 +12,6 @@ is_number_key (Text bytes) number = false
 is_number_key (Truth b) number = false
 
 -- the lines of one entry, whose key is a position or is not
-abbrev pub entry_text : List ℕ → Bool → Key → Value → List ℕ
+abbrev pub entry_text : List ℕ → Bool → Key → Datum → List ℕ
 entry_text indent is_position key value =
     indent ++ (if is_position then [] else key_text key) ++ value_text indent value ++ 44 ∷ 10 ∷ []

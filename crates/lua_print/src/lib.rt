@@ -1,7 +1,6 @@
 //! The one exact text in which `rocks` prints tables.
 #![tactic(auto)]
 
-mod name;
 mod printing;
 mod quote;
 

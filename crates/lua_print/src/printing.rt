@@ -1,15 +1,13 @@
-ghost use Rattle.std.specs.Prelude.{◌≡◌, ◌≢◌, ◌++◌, ◌<◌, ◌∷◌, [], length, slice_get, if◌then◌else◌};
-ghost use Rattle.std.specs.Prelude.{IfOk, OnOk, OnErr, Some, codes};
+ghost use Rattle.std.specs.Prelude.{◌≡◌, ◌≢◌, ◌++◌, ◌<◌, ◌∷◌, [], length, slice_get, if◌then◌else◌, IfOk, OnOk, OnErr, Some, codes};
 ghost use Rattle.std.specs.Fmt.{decimal};
-ghost use Rattle.lua_value.specs.Ordered.{IsOrdered, IsValue};
-ghost use Rattle.lua_value.specs.Pairs.{pairs, keys};
-ghost use Rattle.lua_print.specs.Printed.{truth_text, key_text, value_text, entries_text};
-ghost use Rattle.lua_print.specs.Printed.{table_text, deeper, name_text, globals_text, IsNameKey};
-ghost use Rattle.lua_print.specs.Printed.{HasNames};
+ghost use Rattle.lua_value.specs.Ordered.{IsOrdered, IsServed};
+ghost use Rattle.lua_value.specs.Pairs.{count, listed, keys};
+ghost use Rattle.lua_value.specs.View.{datum};
+ghost use Rattle.lua_print.specs.Printed.{truth_text, key_text, value_text, entries_text, table_text, deeper, name_text, globals_text, IsNameKey, HasNames};
 ghost use Rattle.lua_print.specs.Steps.{is_number_key, entry_text};
 
-use crate::name::is_name;
 use crate::quote::print_quoted;
+use lua_names::is_name;
 use lua_value::{Key, Table, Value};
 use std::alloc::{AllocError, Global};
 
@@ -18,8 +16,8 @@ use std::alloc::{AllocError, Global};
 /// The only error is want of memory, and it leaves `into` as it was.
 pub fn print(alloc: Global, table: &Table, into: &mut Vec<u8>) -> Result<(), AllocError>
     requires ordered { IsOrdered table.now }
-    requires named { HasNames (pairs table.now) }
-    ensures ok { OnOk result (into.new.items ≡ into.old.items ++ globals_text (pairs table.now)) }
+    requires named { HasNames table.now }
+    ensures ok { OnOk result (into.new.items ≡ into.old.items ++ globals_text table.now) }
     ensures err { OnErr result (into.new.items ≡ into.old.items) }
 {
     let mut out = Vec::new(alloc);
@@ -32,9 +30,10 @@ pub fn print(alloc: Global, table: &Table, into: &mut Vec<u8>) -> Result<(), All
 
 fn entry_at(table: &Table, at: usize) -> (&Key, &Value)
     requires ordered { IsOrdered table.now }
-    requires within { at < length (pairs table.now) }
-    ensures entry { slice_get (pairs table.now) at ≡ Some (result.0.now, result.1.now) }
-    ensures served { IsValue result.1.now }
+    requires within { at < count table.now }
+    ensures entry { slice_get (listed table.now) at
+        ≡ Some (result.0.now, datum result.1.now) }
+    ensures served { IsServed (datum result.1.now) }
 {
     table.entry(at).unwrap()
 }
@@ -46,10 +45,10 @@ fn print_global(
     out: &mut Vec<u8>,
 ) -> Result<(), AllocError>
     requires named { IsNameKey key.now }
-    requires served { IsValue value.now }
+    requires served { IsServed (datum value.now) }
     ensures { OnOk result (out.new.items
         ≡ out.old.items
-        ++ (name_text key.now ++ codes " = " ++ value_text [] value.now ++ 10 ∷ [])) }
+        ++ (name_text key.now ++ codes " = " ++ value_text [] (datum value.now) ++ 10 ∷ [])) }
 {
     if let Key::Text(name) = key {
         out.extend_from_slice(name.as_slice())?;
@@ -67,8 +66,9 @@ fn print_value(
     indent: &[u8],
     out: &mut Vec<u8>,
 ) -> Result<(), AllocError>
-    requires { IsValue value.now }
-    ensures { OnOk result (out.new.items ≡ out.old.items ++ value_text indent.now value.now) }
+    requires { IsServed (datum value.now) }
+    ensures { OnOk result
+        (out.new.items ≡ out.old.items ++ value_text indent.now (datum value.now)) }
 {
     match value {
         Value::Nil => out.extend_from_slice(b"nil"),
@@ -88,7 +88,7 @@ fn print_table(
 ) -> Result<(), AllocError>
     requires { IsOrdered table.now }
     ensures { OnOk result (out.new.items
-        ≡ out.old.items ++ table_text indent.now (pairs table.now)) }
+        ≡ out.old.items ++ table_text indent.now table.now) }
 {
     if table.len() == 0 {
         return out.extend_from_slice(b"{}");
@@ -118,7 +118,7 @@ fn print_entries(
 ) -> Result<(), AllocError>
     requires { IsOrdered table.now }
     ensures { OnOk result (out.new.items
-        ≡ out.old.items ++ entries_text indent.now (keys (pairs table.now)) (pairs table.now)) }
+        ≡ out.old.items ++ entries_text indent.now (keys table.now) table.now) }
 {
     // How many of the keys 1, 2 and so on came so far without a gap.
     let mut positions = 0;
@@ -142,9 +142,9 @@ fn print_entry(
     indent: &[u8],
     out: &mut Vec<u8>,
 ) -> Result<(), AllocError>
-    requires { IsValue value.now }
+    requires { IsServed (datum value.now) }
     ensures { OnOk result (out.new.items
-        ≡ out.old.items ++ entry_text indent.now is_position key.now value.now) }
+        ≡ out.old.items ++ entry_text indent.now is_position key.now (datum value.now)) }
 {
     out.extend_from_slice(indent)?;
     if !is_position {

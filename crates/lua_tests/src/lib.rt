@@ -1,9 +1,7 @@
-//! Tests of the crates that read and print Lua, by their public calls.
+//! Tests of the crates that read Lua, by their public calls.
 #![tactic(auto)]
 
 #[cfg(test)]
 mod names;
-#[cfg(test)]
-mod printing;
 #[cfg(test)]
 mod tokens;

@@ -1,6 +1,5 @@
 pub mod KeyOrder
 pub mod Merges
 pub mod Puts
-pub mod Search
-pub mod Tables
+pub mod View
 pub mod Walk

@@ -1,6 +1,9 @@
+pub mod Code
+pub mod Depth
+pub mod Falls
 pub mod Key
 pub mod Merge
 pub mod Ordered
 pub mod Pairs
 pub mod Place
-pub mod formers
+pub mod View

@@ -1,7 +1,6 @@
 //! The values of a Lua text, and its tables as sorted lists of keys and values.
 #![tactic(auto)]
 
-mod entries;
 mod key;
 pub mod laws;
 mod table;

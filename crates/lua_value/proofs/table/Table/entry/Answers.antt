@@ -1,15 +1,18 @@
-use Rattle.std.proofs.Common.{◌≢◌, sym, subst}
-use Rattle.lua_value.specs.declared.key.Key.{Key}
-use Rattle.lua_value.specs.declared.table.Value.{Value}
-use Rattle.lua_value.specs.declared.table.Value.TheVariants.{Nil}
-use Rattle.lua_value.specs.Key.{IsKey}
-use Rattle.lua_value.specs.Ordered.{IsValue, IsOrderedPairs}
-use Rattle.lua_value.proofs.Search.{served_at}
+use Rattle.std.proofs.Common.{sym, ap, ◌∙◌, subst, option_map, arith}
+use Rattle.chunked_list.specs.Items.{items}
+use Rattle.lua_value.specs.Ordered.{IsOrdered}
+use Rattle.lua_value.proofs.View.{seen, listed-pairs_of, served_at, none_beyond}
 use Rattle.lua_value.proofs.table.Table.entry.Goals as goal
 
-pub returns-clause-served : goal.returns-clause-served
-returns-clause-served c =
-    let found = c.in_ok-key.ensures.lookup in
-    let entry = c.in_ok-key.field-0.now in
-    let ordered = subst IsOrderedPairs (sym c.as_slice.ensures) c.requires in
-    subst (λ (pair : Key × Value). IsKey pair.0 × (pair.1 ≢ Nil) × IsValue pair.1) (sym (found.3.1 entry)) (served_at c.as_slice.result.now c.args.at entry ordered found.3.0)
+pub returns-then-at-len-clause-value : goal.returns-then-at-len-clause-value
+returns-then-at-len-clause-value c =
+    rw (← c.self.view_is) (sym (listed-pairs_of _ c.args.at ∙ ap (option_map seen) c.item.ensures))
+
+pub returns-then-at-len-clause-served : goal.returns-then-at-len-clause-served
+returns-then-at-len-clause-served c =
+    served_at _ _ _ (subst IsOrdered (sym c.self.view_is) c.requires) c.item.ensures
+
+pub returns-clause-value : goal.returns-clause-value
+returns-clause-value c =
+    let es = items c.self.inside.entries in
+    rw (← c.self.view_is) (sym (listed-pairs_of es c.args.at ∙ ap (option_map seen) (none_beyond es c.args.at (omega arith))))

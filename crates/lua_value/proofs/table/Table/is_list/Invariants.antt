@@ -1,10 +1,11 @@
-use Rattle.std.proofs.Common.{◌≡◌, ℕ, ◌+◌, ◌<◌, Some, option_map}
-use Rattle.std.specs.Prelude.{slice_get}
-use Rattle.lua_value.specs.declared.key.Key.{Key}
-use Rattle.lua_value.specs.declared.key.Key.TheVariants.{Int}
-use Rattle.lua_value.specs.declared.table.Value.{Value}
+use Rattle.std.proofs.Common.{◌+◌, drop}
+use Rattle.chunked_list.specs.Items.{items}
+use Rattle.lua_value.specs.Pairs.{IsListFrom, IsList}
+use Rattle.lua_value.specs.View.{pairs_of}
 use Rattle.lua_value.proofs.table.Table.is_list.Given as goal
 
-abbrev pub invariant-loop-entry : goal.invariant-loop-entry
-invariant-loop-entry l =
-    (l.next ≡ l.entry-index + 1) × ((k : ℕ) → k < l.entry-index → option_map (λ (pair : Key × Value). pair.0) (slice_get l.self.entries k) ≡ Some (Int (k + 1)))
+abbrev pub invariant-loop-at : goal.invariant-loop-at
+invariant-loop-at l = record {
+  so_far : IsListFrom (l.at + 1) (pairs_of (drop l.at (items l.self-inside.entries))) → IsList (pairs_of (items l.self-inside.entries));
+  from_here : IsList (pairs_of (items l.self-inside.entries)) → IsListFrom (l.at + 1) (pairs_of (drop l.at (items l.self-inside.entries)));
+}

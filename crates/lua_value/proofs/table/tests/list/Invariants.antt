@@ -1,5 +1,0 @@
-use Rattle.lua_value.specs.Ordered.{IsOrdered}
-use Rattle.lua_value.proofs.table.tests.list.Given as goal
-
-abbrev pub invariant-loop-item : goal.invariant-loop-item
-invariant-loop-item l = IsOrdered l.made
