@@ -1,0 +1,10 @@
+pub mod Grammar
+pub mod Brackets
+pub mod Chunks
+pub mod Failing
+pub mod Fields
+pub mod Faults
+pub mod Refusals
+pub mod Reading
+pub mod States
+pub mod Places
