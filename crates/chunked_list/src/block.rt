@@ -13,10 +13,10 @@ use std::cmp::Ordering;
 use std::mem;
 
 /// How many items a chunk has before it is cut in two.
-const FULL: usize = 64;
+const FULL: usize = 32;
 
 /// How many chunks a block has before it is cut in two.
-pub const CHUNKS: usize = 128;
+pub const CHUNKS: usize = 256;
 
 /// Some items of a list, in chunks, so that an item that is put in moves few others.
 #[derive(Debug, Drop)]

@@ -21,7 +21,7 @@ returns-clause-items g c =
     let low = c.split_off.new.self in
     let high = c.in_ok-high.high in
     let e : v ≡ get_or cs k v = subst (λ xs. v ≡ get_or xs k v) c.in_ok-reserve.ensures.items c.index_mut-low.ensures.value in
-    let halves : v.items ≡ low.items ++ high.items = sym (take-append-drop 32 v.items) ∙ (λ i. sym c.in_ok-high.ensures.items i ++ sym c.in_ok-high.ensures.tail i) in
+    let halves : v.items ≡ low.items ++ high.items = sym (take-append-drop 16 v.items) ∙ (λ i. sym c.in_ok-high.ensures.items i ++ sym c.in_ok-high.ensures.tail i) in
     ap (joined chunk_items) (c.put_in_room.ensures ∙ ap (λ xs. insert (set xs k low) (k + 1) high) c.in_ok-reserve.ensures.items)
     ∙ joined_cut chunk_items cs k low high v c.requires.is_chunk e halves
 
@@ -34,7 +34,7 @@ returns-clause-whole g c =
     let low = c.split_off.new.self in
     let high = c.in_ok-high.high in
     let e : v ≡ get_or cs k v = subst (λ xs. v ≡ get_or xs k v) c.in_ok-reserve.ensures.items c.index_mut-low.ensures.value in
-    let halves : v.items ≡ low.items ++ high.items = sym (take-append-drop 32 v.items) ∙ (λ i. sym c.in_ok-high.ensures.items i ++ sym c.in_ok-high.ensures.tail i) in
+    let halves : v.items ≡ low.items ++ high.items = sym (take-append-drop 16 v.items) ∙ (λ i. sym c.in_ok-high.ensures.items i ++ sym c.in_ok-high.ensures.tail i) in
     let cut : c.put_in_room.new.list.items ≡ insert (set cs k low) (k + 1) high = c.put_in_room.ensures ∙ ap (λ xs. insert (set xs k low) (k + 1) high) c.in_ok-reserve.ensures.items in
     let size = size_is chunk_items cs k v c.requires.is_chunk e in
     let low_some : HasItems low = omega (arith, c.in_ok-high.ensures.len, low.ok.0) in
