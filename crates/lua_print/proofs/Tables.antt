@@ -5,7 +5,7 @@ use Rattle.std.specs.List.{slice_get}
 use Rattle.lua_value.specs.declared.key.Key.{Key}
 use Rattle.lua_value.specs.Pairs.{Datum, Pairs, no_pairs, with_pair, count, listed, keys}
 use Rattle.lua_print.specs.Printed.{value_text, entries_text, table_text, deeper, name_text, globals_text, IsNameKey, HasNames}
-use Rattle.lua_print.proofs.Left.{left, left-entry}
+use Rattle.lua_value.proofs.Left.{left, left-entry}
 
 table_text-some : (indent : List ℕ) (ps : Pairs) → count ps ≢ 0 → table_text indent ps ≡ ((123 ∷ 10 ∷ entries_text (deeper indent) (keys ps) ps) ++ indent) ++ 125 ∷ []
 table_text-some indent no_pairs h = absurd (h refl)

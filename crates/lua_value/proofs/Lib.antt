@@ -3,3 +3,4 @@ pub mod Merges
 pub mod Puts
 pub mod View
 pub mod Walk
+pub mod Left

@@ -7,7 +7,7 @@ use Rattle.lua_value.specs.Pairs.{Datum, Pairs, count, keys}
 use Rattle.lua_value.specs.View.{datum}
 use Rattle.lua_print.specs.Printed.{entries_text, deeper}
 use Rattle.lua_print.specs.Steps.{is_number_key, entry_text}
-use Rattle.lua_print.proofs.Left.{depth_at, left, left-entry, left-end}
+use Rattle.lua_value.proofs.Left.{depth_at, left, left-entry, left-end}
 use Rattle.lua_print.proofs.Tables.{table_text-none, pieces, on_last}
 use Rattle.lua_print.proofs.Walk.{walk_text, walk_text-all, print_step}
 use Rattle.lua_print.proofs.printing.+print.Goals as goal

@@ -1,7 +1,7 @@
 use Rattle.std.proofs.Common.{◌≡◌, ◌≤◌, ◌+◌, ◌*◌, ◌++◌}
 use Rattle.lua_value.specs.Depth.{value_depth, depth}
 use Rattle.lua_value.specs.View.{datum}
-use Rattle.lua_print.proofs.Left.{left}
+use Rattle.lua_value.proofs.Left.{left}
 use Rattle.lua_print.proofs.Walk.{walk_text}
 use Rattle.lua_print.proofs.printing.+print.Given as goal
 

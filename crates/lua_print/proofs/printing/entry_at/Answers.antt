@@ -1,4 +1,4 @@
-use Rattle.lua_print.proofs.Left.{entry_is}
+use Rattle.lua_value.proofs.Left.{entry_is}
 use Rattle.lua_print.proofs.printing.entry_at.Goals as goal
 
 pub unwrap-requires : goal.unwrap-requires

@@ -4,7 +4,7 @@ use Rattle.lua_value.specs.declared.key.Key.{Key}
 use Rattle.lua_value.specs.Pairs.{Datum, Pairs}
 use Rattle.lua_value.specs.View.{datum}
 use Rattle.lua_print.specs.Printed.{value_text, name_text, globals_text}
-use Rattle.lua_print.proofs.Left.{left-end}
+use Rattle.lua_value.proofs.Left.{left-end}
 use Rattle.lua_print.proofs.Tables.{on_last, names_at, globals_text-left}
 use Rattle.lua_print.proofs.Walk.{print_step}
 use Rattle.lua_print.proofs.printing.print.Goals as goal

@@ -1,6 +1,6 @@
 use Rattle.std.proofs.Common.{◌≡◌, ◌++◌}
 use Rattle.lua_print.specs.Printed.{globals_text}
-use Rattle.lua_print.proofs.Left.{left}
+use Rattle.lua_value.proofs.Left.{left}
 use Rattle.lua_print.proofs.printing.print.Given as goal
 
 abbrev pub invariant-loop-at : goal.invariant-loop-at
