@@ -23,3 +23,4 @@ pub mod Faulty
 pub mod StatementStops
 pub mod Chunked
 pub mod Placed
+pub mod Trees

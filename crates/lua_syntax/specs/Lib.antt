@@ -8,3 +8,4 @@ pub mod Refusals
 pub mod Reading
 pub mod States
 pub mod Places
+pub mod Trees
