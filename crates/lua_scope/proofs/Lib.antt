@@ -1,0 +1,4 @@
+pub mod Named
+pub mod Shadows
+pub mod Taken
+pub mod Unset

@@ -1,0 +1,5 @@
+pub mod Code
+pub mod Globals
+pub mod Locals
+pub mod Places
+pub mod Views
