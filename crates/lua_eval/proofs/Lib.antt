@@ -1,0 +1,10 @@
+pub mod Depths
+pub mod Walks
+pub mod Filling
+pub mod Tables
+pub mod Sums
+pub mod Served
+pub mod Kept
+pub mod Runs
+pub mod Keyed
+pub mod Joined
