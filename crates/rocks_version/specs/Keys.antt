@@ -1,0 +1,12 @@
+-- The order in which rocks are listed. (This project's own.)
+use Rattle.std.specs.Prelude.{Bool, ◌&&◌, ◌||◌}
+use Rattle.std.specs.Ordering.{is_eq, is_gt, is_lt, nat_cmp}
+use Rattle.std.specs.Cmp.Lexicographic.{slice_cmp}
+use Rattle.rocks_version.specs.Orders.{version_rank}
+use Rattle.rocks_version.specs.declared.key.RockKey.{RockKey}
+
+-- names rise by their bytes, and the versions of one name fall by their rank
+unfoldable pub is_before : RockKey → RockKey → Bool
+is_before left right =
+    is_lt (slice_cmp nat_cmp left.name right.name)
+    || (is_eq (slice_cmp nat_cmp left.name right.name) && is_gt (version_rank left.version right.version))

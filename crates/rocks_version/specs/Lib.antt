@@ -1,0 +1,5 @@
+pub mod Components
+pub mod Faults
+pub mod Keys
+pub mod Orders
+pub mod Texts

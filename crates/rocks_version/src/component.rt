@@ -1,0 +1,96 @@
+ghost use Rattle.std.specs.Prelude.{◌≡◌, ◌<◌, ◌≤◌, ◌+◌, drop, not, length, slice_index, slice_index_or, IsTrue};
+ghost use Rattle.std.specs.List.{prefix_len};
+ghost use Rattle.std.specs.Char.{is_ascii_alphabetic, is_ascii_alphanumeric};
+ghost use Rattle.rocks_version.specs.Components.{components, Number};
+ghost use Rattle.rocks_version.specs.Orders.{number_step, word_step, step_of, place_of};
+ghost use Rattle.rocks_version.specs.Texts.{has_short_numbers};
+
+use crate::text::{digit_count, number};
+
+/// Where a component stands in their order: on which step, and at which place of it. The steps are `alpha`, `beta`,
+/// `pre`, `rc`, the number 0, other words, which go by their first byte, other numbers, `cvs`, `scm` and `dev`
+/// (LuaRocks).
+#[derive(Clone, Copy, Debug, PartialEq, Eq, PartialOrd, Ord)]
+pub struct Rung {
+    pub step: u8,
+    pub place: u64,
+}
+
+/// The rung of a body's first component, and what follows that component. Behind the last component stands the
+/// number 0.
+pub fn first(body: &[u8]) -> (Rung, &[u8])
+    requires { IsTrue (has_short_numbers body.now) }
+    ensures step { result.0.step ≡ step_of (slice_index_or (components body.now) 0 (Number 0)) }
+    ensures place { result.0.place ≡ place_of (slice_index_or (components body.now) 0 (Number 0)) }
+    ensures rest { components result.1.now ≡ drop 1 (components body.now) }
+    ensures short { IsTrue (has_short_numbers result.1.now) }
+    ensures shorter { 0 < length body.now → length result.1.now < length body.now }
+    ensures no_longer { length result.1.now ≤ length body.now }
+{
+    let text = past_separators(body);
+    let digits = digit_count(text);
+    if digits > 0 || text.is_empty() {
+        return (number_rung(number(&text[..digits])), &text[digits..]);
+    }
+    let letters = letter_count(text);
+    (word_rung(&text[..letters]), &text[letters..])
+}
+
+fn past_separators(text: &[u8]) -> &[u8]
+    ensures { result.now ≡ drop (prefix_len (λ b. not (is_ascii_alphanumeric b)) text.now) text.now }
+{
+    let count = text
+        .iter()
+        .take_while(|b| !b.is_ascii_alphanumeric())
+        .count();
+    &text[count..]
+}
+
+fn letter_count(text: &[u8]) -> usize
+    ensures { result ≡ prefix_len is_ascii_alphabetic text.now }
+{
+    text.iter().take_while(|b| b.is_ascii_alphabetic()).count()
+}
+
+fn number_rung(number: u64) -> Rung
+    ensures step { result.step ≡ number_step number }
+    ensures place { result.place ≡ number }
+{
+    Rung {
+        step: if number == 0 { 4 } else { 6 },
+        place: number,
+    }
+}
+
+fn word_rung(word: &[u8]) -> Rung
+    requires { 0 < length word.now }
+    ensures step { result.step ≡ word_step word.now }
+    ensures place { result.place ≡ slice_index word.now 0 }
+{
+    Rung {
+        step: word_step(word),
+        place: u64::from(word[0]),
+    }
+}
+
+fn word_step(word: &[u8]) -> u8
+    ensures { result ≡ word_step word.now }
+{
+    if word == b"alpha".as_slice() {
+        0
+    } else if word == b"beta".as_slice() {
+        1
+    } else if word == b"pre".as_slice() {
+        2
+    } else if word == b"rc".as_slice() {
+        3
+    } else if word == b"cvs".as_slice() {
+        7
+    } else if word == b"scm".as_slice() {
+        8
+    } else if word == b"dev".as_slice() {
+        9
+    } else {
+        5
+    }
+}

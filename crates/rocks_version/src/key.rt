@@ -1,0 +1,36 @@
+ghost use Rattle.std.specs.Prelude.{◌≡◌, IfOk};
+ghost use Rattle.rocks_version.specs.Keys.{is_before};
+
+use crate::{Version, rank};
+use rocks_text::Name;
+use std::alloc::{AllocError, Global};
+
+/// One version of one package.
+#[derive(Debug, PartialEq, Eq, Drop)]
+pub struct RockKey {
+    pub name: Name,
+    pub version: Version,
+}
+
+impl RockKey {
+    /// An equal key. The only error is want of memory.
+    pub fn copy(&self, alloc: Global) -> Result<RockKey, AllocError>
+        ensures { IfOk result (λ copied. copied ≡ self.now) }
+    {
+        Ok(RockKey {
+            name: self.name.copy(alloc)?,
+            version: self.version.copy(alloc)?,
+        })
+    }
+}
+
+/// Whether a rock is listed before another: names rise by their bytes, and versions of one name fall by their rank.
+/// It takes no memory.
+pub fn before(left: &RockKey, right: &RockKey) -> bool
+    ensures { result ≡ is_before left.now right.now }
+{
+    left.name
+        .cmp(&right.name)
+        .then(rank(&right.version, &left.version))
+        .is_lt()
+}

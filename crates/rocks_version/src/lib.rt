@@ -1,0 +1,15 @@
+//! Versions: their form, their components, and the orders that they are compared and listed by.
+#![tactic(auto)]
+
+mod component;
+mod fault;
+mod key;
+pub mod laws;
+mod order;
+mod text;
+mod version;
+
+pub use fault::VersionFault;
+pub use key::{RockKey, before};
+pub use order::{compare, rank};
+pub use version::Version;
