@@ -1,0 +1,6 @@
+pub mod FaultLemmas
+pub mod Numbers
+pub mod Parts
+pub mod Values
+pub mod Runs
+pub mod Padding

@@ -1,7 +1,8 @@
-ghost use Rattle.std.specs.Prelude.{◌≡◌, ◌<◌, ◌≤◌, ◌+◌, drop, not, length, slice_index, slice_index_or, IsTrue};
+ghost use Rattle.std.specs.Prelude.{◌≡◌, ◌<◌, ◌≤◌, ◌∷◌, drop, not, length};
+ghost use Rattle.std.specs.Prelude.{slice_index, slice_index_or, IsTrue};
 ghost use Rattle.std.specs.List.{prefix_len};
-ghost use Rattle.std.specs.Char.{is_ascii_alphabetic, is_ascii_alphanumeric};
-ghost use Rattle.rocks_version.specs.Components.{components, Number};
+ghost use Rattle.std.specs.Char.{is_ascii_alphabetic, is_ascii_alphanumeric, is_ascii_digit};
+ghost use Rattle.rocks_version.specs.Components.{components, Number, Word};
 ghost use Rattle.rocks_version.specs.Orders.{number_step, word_step, step_of, place_of};
 ghost use Rattle.rocks_version.specs.Texts.{has_short_numbers};
 
@@ -18,6 +19,7 @@ pub struct Rung {
 
 /// The rung of a body's first component, and what follows that component. Behind the last component stands the
 /// number 0.
+#[tactic(auto, using(crate::proofs::Runs::no_components))]
 pub fn first(body: &[u8]) -> (Rung, &[u8])
     requires { IsTrue (has_short_numbers body.now) }
     ensures step { result.0.step ≡ step_of (slice_index_or (components body.now) 0 (Number 0)) }
@@ -28,22 +30,61 @@ pub fn first(body: &[u8]) -> (Rung, &[u8])
     ensures no_longer { length result.1.now ≤ length body.now }
 {
     let text = past_separators(body);
-    let digits = digit_count(text);
-    if digits > 0 || text.is_empty() {
-        return (number_rung(number(&text[..digits])), &text[digits..]);
+    if text.is_empty() {
+        return (number_rung(0), text);
     }
-    let letters = letter_count(text);
-    (word_rung(&text[..letters]), &text[letters..])
+    if text[0].is_ascii_digit() {
+        let (number, rest) = first_number(text);
+        (number_rung(number), rest)
+    } else {
+        let (word, rest) = first_word(text);
+        (word_rung(word), rest)
+    }
 }
 
-fn past_separators(text: &[u8]) -> &[u8]
-    ensures { result.now ≡ drop (prefix_len (λ b. not (is_ascii_alphanumeric b)) text.now) text.now }
+// The body from its first letter or digit on.
+fn past_separators(body: &[u8]) -> &[u8]
+    requires { IsTrue (has_short_numbers body.now) }
+    ensures components { components result.now ≡ components body.now }
+    ensures begins { 0 < length result.now → IsTrue (is_ascii_alphanumeric (slice_index result.now 0)) }
+    ensures short { IsTrue (has_short_numbers result.now) }
+    ensures no_longer { length result.now ≤ length body.now }
 {
-    let count = text
-        .iter()
+    body.split_at(separator_count(body)).1
+}
+
+// The number that a text begins with, and what follows it.
+#[tactic(auto, using(crate::proofs::Runs::some_front, crate::proofs::Numbers::short_front))]
+fn first_number(text: &[u8]) -> (u64, &[u8])
+    requires begins { IsTrue (is_ascii_digit (slice_index text.now 0)) }
+    requires short { IsTrue (has_short_numbers text.now) }
+    ensures components { components text.now ≡ Number result.0 ∷ components result.1.now }
+    ensures short { IsTrue (has_short_numbers result.1.now) }
+    ensures shorter { length result.1.now < length text.now }
+{
+    let (digits, rest) = text.split_at(digit_count(text));
+    (number(digits), rest)
+}
+
+// The word that a text begins with, and what follows it.
+#[tactic(auto, using(crate::proofs::Runs::some_front))]
+fn first_word(text: &[u8]) -> (&[u8], &[u8])
+    requires begins { IsTrue (is_ascii_alphabetic (slice_index text.now 0)) }
+    requires short { IsTrue (has_short_numbers text.now) }
+    ensures components { components text.now ≡ Word result.0.now ∷ components result.1.now }
+    ensures some { 0 < length result.0.now }
+    ensures short { IsTrue (has_short_numbers result.1.now) }
+    ensures shorter { length result.1.now < length text.now }
+{
+    text.split_at(letter_count(text))
+}
+
+fn separator_count(text: &[u8]) -> usize
+    ensures { result ≡ prefix_len (λ b. not (is_ascii_alphanumeric b)) text.now }
+{
+    text.iter()
         .take_while(|b| !b.is_ascii_alphanumeric())
-        .count();
-    &text[count..]
+        .count()
 }
 
 fn letter_count(text: &[u8]) -> usize
@@ -73,6 +114,7 @@ fn word_rung(word: &[u8]) -> Rung
     }
 }
 
+#[tactic(auto, unfolding(crate::specs::Orders::word_step))]
 fn word_step(word: &[u8]) -> u8
     ensures { result ≡ word_step word.now }
 {

@@ -4,6 +4,7 @@ ghost use Rattle.rocks_version.specs.Keys.{is_before};
 use crate::{Version, rank};
 use rocks_text::Name;
 use std::alloc::{AllocError, Global};
+use std::cmp::Ordering;
 
 /// One version of one package.
 #[derive(Debug, PartialEq, Eq, Drop)]
@@ -26,11 +27,13 @@ impl RockKey {
 
 /// Whether a rock is listed before another: names rise by their bytes, and versions of one name fall by their rank.
 /// It takes no memory.
+#[tactic(auto, unfolding(crate::specs::Keys::is_before))]
 pub fn before(left: &RockKey, right: &RockKey) -> bool
     ensures { result ≡ is_before left.now right.now }
 {
-    left.name
-        .cmp(&right.name)
-        .then(rank(&right.version, &left.version))
-        .is_lt()
+    match left.name.cmp(&right.name) {
+        Ordering::Less => true,
+        Ordering::Equal => rank(&left.version, &right.version).is_gt(),
+        Ordering::Greater => false,
+    }
 }

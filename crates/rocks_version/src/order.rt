@@ -27,6 +27,7 @@ pub fn rank(left: &Version, right: &Version) -> Ordering
     rank_texts(left.as_str().as_bytes(), right.as_str().as_bytes())
 }
 
+#[tactic(auto, unfolding(crate::specs::Orders::version_cmp), using(crate::proofs::Parts::version_short))]
 fn compare_texts(left: &[u8], right: &[u8]) -> Ordering
     requires left { IsTrue (is_version left.now) }
     requires right { IsTrue (is_version right.now) }
@@ -35,6 +36,7 @@ fn compare_texts(left: &[u8], right: &[u8]) -> Ordering
     compare_bodies(left, right).then(compare_revisions(revision(left), revision(right)))
 }
 
+#[tactic(auto, unfolding(crate::specs::Orders::version_rank), using(crate::proofs::Parts::version_short))]
 fn rank_texts(left: &[u8], right: &[u8]) -> Ordering
     requires left { IsTrue (is_version left.now) }
     requires right { IsTrue (is_version right.now) }
@@ -47,6 +49,7 @@ fn rank_texts(left: &[u8], right: &[u8]) -> Ordering
         .then(left.cmp(right))
 }
 
+#[tactic(auto, using(crate::proofs::Parts::version_body_short))]
 fn compare_bodies(left: &[u8], right: &[u8]) -> Ordering
     requires left { IsTrue (is_version left.now) }
     requires right { IsTrue (is_version right.now) }

@@ -1,5 +1,7 @@
-ghost use Rattle.std.specs.Prelude.{◌≡◌, ◌+◌, ◌≤◌, false, true, not, length, drop, IsTrue, MatchOption};
-ghost use Rattle.std.specs.List.{list_all, prefix_len, suffix_len, before_last, after_last};
+ghost use Rattle.std.specs.Prelude.{◌≡◌, ◌+◌, ◌≤◌, false, true, not, length, slice_index};
+ghost use Rattle.std.specs.Prelude.{IsTrue, MatchOption};
+ghost use Rattle.std.specs.List.{list_all, position, prefix_len, suffix_len};
+ghost use Rattle.std.specs.List.{before_last, after_last};
 ghost use Rattle.std.specs.Char.{is_ascii_digit, is_ascii_alphabetic, is_ascii_alphanumeric};
 ghost use Rattle.std.specs.Str.Parse.{digits_value};
 ghost use Rattle.rocks_version.specs.Texts.{is_dash, is_version_byte, is_numeral, has_revision};
@@ -16,6 +18,7 @@ const LONGEST: usize = 40;
 const MOST_DIGITS: usize = 18;
 
 /// The fault of a text that is no version.
+#[tactic(auto, using(crate::proofs::Parts::form_is, crate::proofs::FaultLemmas::fault_is))]
 pub fn fault_of(text: &[u8]) -> Option<VersionFault>
     ensures { result ≡ fault_of text.now }
 {
@@ -33,13 +36,23 @@ pub fn fault_of(text: &[u8]) -> Option<VersionFault>
     None
 }
 
+#[tactic(auto, using(crate::proofs::Parts::form_is))]
 fn has_form(text: &[u8]) -> bool
     ensures { result ≡ has_form text.now }
 {
-    !text.is_empty()
-        && text.len() <= LONGEST
-        && text[0].is_ascii_alphanumeric()
-        && text.iter().all(|b| is_version_byte(*b))
+    begins_well(text) && text.len() <= LONGEST && are_version_bytes(text)
+}
+
+fn begins_well(text: &[u8]) -> bool
+    ensures { result ≡ is_ascii_alphanumeric (slice_index text.now 0) }
+{
+    !text.is_empty() && text[0].is_ascii_alphanumeric()
+}
+
+fn are_version_bytes(text: &[u8]) -> bool
+    ensures { result ≡ list_all is_version_byte text.now }
+{
+    text.iter().all(|b| is_version_byte(*b))
 }
 
 fn is_version_byte(b: u8) -> bool
@@ -51,11 +64,17 @@ fn is_version_byte(b: u8) -> bool
 fn bad_place(text: &[u8]) -> u32
     ensures { result ≡ bad_place text.now }
 {
-    match text.iter().position(|b| !is_version_byte(*b)) {
+    match bad_byte(text) {
         Some(place) => u32::try_from(place).unwrap_or(u32::MAX),
         None if text.len() > LONGEST => LONGEST as u32,
         None => 0,
     }
+}
+
+fn bad_byte(text: &[u8]) -> Option<usize>
+    ensures { result ≡ position (λ b. not (is_version_byte b)) text.now }
+{
+    text.iter().position(|b| !is_version_byte(*b))
 }
 
 fn long_number_place(text: &[u8]) -> usize
@@ -77,6 +96,7 @@ pub fn digit_count(text: &[u8]) -> usize
 }
 
 /// The text before the revision and its dash.
+#[tactic(auto, unfolding(crate::specs::Texts::body))]
 pub fn body(text: &[u8]) -> &[u8]
     ensures { result.now ≡ body text.now }
 {
@@ -87,6 +107,7 @@ pub fn body(text: &[u8]) -> &[u8]
 }
 
 /// The revision, if the text has one.
+#[tactic(auto, unfolding(crate::specs::Texts::revision), using(crate::proofs::Parts::revision_digits, crate::proofs::Parts::revision_short))]
 pub fn revision(text: &[u8]) -> Option<u64>
     requires { IsTrue (has_short_numbers text.now) }
     ensures { result ≡ revision text.now }
@@ -96,6 +117,7 @@ pub fn revision(text: &[u8]) -> Option<u64>
 }
 
 // What stands before and behind the dash of a revision.
+#[tactic(auto, using(crate::proofs::Parts::revision_is))]
 fn parts(text: &[u8]) -> Option<(&[u8], &[u8])>
     ensures { MatchOption result (has_revision text.now ≡ false) (λ parts.
         (has_revision text.now ≡ true)
@@ -123,7 +145,13 @@ fn bytes_behind_dash(text: &[u8]) -> usize
 fn is_numeral(digits: &[u8]) -> bool
     ensures { result ≡ is_numeral digits.now }
 {
-    !digits.is_empty() && digits.iter().all(|b| b.is_ascii_digit())
+    !digits.is_empty() && are_digits(digits)
+}
+
+fn are_digits(text: &[u8]) -> bool
+    ensures { result ≡ list_all is_ascii_digit text.now }
+{
+    text.iter().all(|b| b.is_ascii_digit())
 }
 
 /// The number that digits write.
@@ -140,14 +168,21 @@ pub fn number(digits: &[u8]) -> u64
 }
 
 /// Whether a version is one of a rock.
+#[tactic(auto, using(crate::proofs::Parts::rock_version_is))]
 pub fn is_rock_version(text: &[u8]) -> bool
     requires { IsTrue (is_version text.now) }
     ensures { result ≡ is_rock_version text.now }
 {
     match parts(text) {
-        Some((before, _)) => before.iter().all(|b| is_rock_byte(*b)),
+        Some((before, _)) => are_rock_bytes(before),
         None => false,
     }
+}
+
+fn are_rock_bytes(text: &[u8]) -> bool
+    ensures { result ≡ list_all is_rock_byte text.now }
+{
+    text.iter().all(|b| is_rock_byte(*b))
 }
 
 fn is_rock_byte(b: u8) -> bool

@@ -33,17 +33,18 @@ impl Version {
     ///
     /// `BadVersion` where the text has not the form of a version, `NumberTooLong` where it has that form and a
     /// number in it is too long, and else `NoMemory` where memory runs out.
+    #[tactic(auto, using(crate::proofs::FaultLemmas::version_if_none))]
     pub fn read(alloc: Global, text: &str) -> Result<Version, VersionFault>
         ensures version { IfNone (fault_of text.now) (MatchResult result
             (λ version. version ≡ text.now) (λ fault. fault ≡ VersionFault.NoMemory)) }
         ensures fault { IfSome (fault_of text.now) (λ fault. result ≡ Err fault) }
     {
-        if let Some(fault) = text::fault_of(text.as_bytes()) {
-            return Err(fault);
+        match text::fault_of(text.as_bytes()) {
+            Some(fault) => Err(fault),
+            None => Ok(Version {
+                text: Text::from(String::from_str(alloc, text)?),
+            }),
         }
-        Ok(Version {
-            text: Text::from(String::from_str(alloc, text)?),
-        })
     }
 
     /// The version, to be read.
