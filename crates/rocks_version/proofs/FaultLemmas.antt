@@ -1,8 +1,7 @@
 -- The fault of a text.
-use Rattle.std.proofs.Common.{◌≡◌, ℕ, List, length, refl, true, false, not, nat_lt, ◌&&◌, if◌then◌else◌, Some, None, Option}
+use Rattle.std.proofs.Common.{◌≡◌, ℕ, List, length, refl, true, false, not, nat_lt, ◌&&◌, if◌then◌else◌, Some, None}
 use Rattle.rocks_version.specs.Texts.{has_form, has_short_numbers, is_version}
 use Rattle.rocks_version.specs.Faults.{bad_place, long_number_place, fault_of}
-use Rattle.rocks_version.specs.declared.fault.VersionFault.{VersionFault}
 use Rattle.rocks_version.specs.declared.fault.VersionFault.TheVariants.{BadVersion, NumberTooLong}
 use Rattle.rocks_version.proofs.Numbers.{and_left, and_right, long_numbers}
 

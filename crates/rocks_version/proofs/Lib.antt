@@ -4,3 +4,5 @@ pub mod Parts
 pub mod Values
 pub mod Runs
 pub mod Padding
+pub mod OrderLaws
+pub mod RevisionLaws

@@ -1,11 +1,11 @@
 -- How long the numbers of a text are.
-use Rattle.std.proofs.Common.{◌≡◌, ℕ, zero, suc, ◌+◌, ◌<◌, ◌≤◌, List, [], ◌∷◌, length, drop, take, get_or, refl, ap, ◌∙◌, true, false, not, Bool, cond, arith, nat_lt, nat_le, ◌&&◌}
+use Rattle.std.proofs.Common.{◌≡◌, ℕ, zero, suc, ◌+◌, ◌<◌, ◌≤◌, List, [], ◌∷◌, ◌++◌, length, drop, take, get_or, refl, ap, ◌∙◌, true, false, not, Bool, cond, arith, nat_lt, nat_le, ◌&&◌}
 use Rattle.std.specs.List.{prefix_len, list_all}
 use Rattle.std.specs.Char.{is_ascii_digit}
 use Rattle.std.proofs.lemmas.Bool.Decides.{nat_tests}
 use Rattle.std.proofs.Math.Numerals.{one-add}
 use Rattle.std.proofs.lemmas.Bool.{le-leb}
-use Rattle.std.proofs.lemmas.List.{drop_more}
+use Rattle.std.proofs.lemmas.List.{drop_at, drop_more}
 use Rattle.rocks_version.specs.Texts.{has_short_numbers}
 use Rattle.rocks_version.specs.Faults.{long_number_place}
 
@@ -87,3 +87,17 @@ front_passes p (b ∷ bs) =
       | true ↦ λ yes. rw (one-add (prefix_len p bs)) (both (p b) (list_all p (take (prefix_len p bs) bs)) yes (front_passes p bs))
       | false ↦ λ no. refl
     ] refl
+
+digits_counted : (digits after : List ℕ) → list_all is_ascii_digit digits ≡ true → length digits ≤ prefix_len is_ascii_digit (digits ++ after)
+digits_counted [] after all = omega arith
+digits_counted (b ∷ bs) after all =
+    let rest = digits_counted bs after (and_right (is_ascii_digit b) (list_all is_ascii_digit bs) all) in
+    rw (and_left (is_ascii_digit b) (list_all is_ascii_digit bs) all) (omega arith)
+
+-- digits in a row are few
+pub few_in_a_row : (before digits after : List ℕ) → has_short_numbers (before ++ (digits ++ after)) ≡ true → list_all is_ascii_digit digits ≡ true → length digits ≤ 18
+few_in_a_row before digits after short all =
+    let rest = rw (drop_at before (digits ++ after) (length before) refl) at (short_drop (before ++ (digits ++ after)) (length before) short) in
+    let few = short_front (digits ++ after) rest in
+    let counted = digits_counted digits after all in
+    omega arith

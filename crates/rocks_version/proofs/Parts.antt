@@ -1,11 +1,10 @@
 -- The body and the revision of a text.
-use Rattle.std.proofs.Common.{◌≡◌, ℕ, zero, suc, ◌+◌, ◌-◌, ◌<◌, ◌≤◌, List, [], ◌∷◌, length, drop, take, get_or, refl, ap, sym, ◌∙◌, true, false, not, Bool, cond, arith, nat_lt, nat_le, ◌&&◌, slice_index, if◌then◌else◌}
-use Rattle.std.specs.List.{prefix_len, suffix_len, list_all, before_last, after_last}
+use Rattle.std.proofs.Common.{◌≡◌, ℕ, zero, suc, ◌-◌, ◌<◌, ◌≤◌, List, [], ◌∷◌, length, drop, take, refl, ap, sym, ◌∙◌, true, false, not, Bool, arith, nat_lt, nat_le, ◌&&◌, slice_index, if◌then◌else◌}
+use Rattle.std.specs.List.{suffix_len, list_all, before_last, after_last}
 use Rattle.std.specs.Char.{is_ascii_alphanumeric, is_ascii_digit}
 use Rattle.std.proofs.lemmas.Bool.Decides.{nat_tests}
 use Rattle.std.proofs.lemmas.Bool.{lt-ltb}
 use Rattle.std.proofs.lemmas.List.{length-take-le, take_rest}
-use Rattle.std.proofs.lemmas.List.Sums.{suffix_len-le-length}
 use Rattle.rocks_version.specs.Texts.{is_dash, is_numeral, has_revision, body, has_form, has_short_numbers, is_version, is_version_byte, is_rock_byte, is_rock_version}
 use Rattle.rocks_version.proofs.Numbers.{and_left, and_right, prefix_len-all, short_front, short_drop, short_take}
 

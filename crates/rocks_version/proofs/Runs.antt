@@ -1,11 +1,11 @@
 -- The components of a text, from the front on.
-use Rattle.std.proofs.Common.{◌≡◌, ℕ, zero, suc, ◌+◌, ◌<◌, ◌≤◌, List, [], ◌∷◌, length, take, drop, get_or, refl, sym, ap, ◌∙◌, true, false, not, Bool, cond, arith, ◌&&◌, ◌||◌, Some, None, Option, slice_index}
-use Rattle.std.specs.List.{prefix_len, filter_map, cons_option, slice_index_or}
+use Rattle.std.proofs.Common.{◌≡◌, ℕ, ◌+◌, ◌<◌, List, [], ◌∷◌, length, take, drop, refl, sym, ap, ◌∙◌, true, false, not, Bool, cond, arith, None, slice_index}
+use Rattle.std.specs.List.{prefix_len, filter_map, cons_option}
 use Rattle.std.specs.Char.{is_ascii_alphanumeric, is_ascii_alphabetic, is_ascii_digit}
 use Rattle.std.specs.Str.Parse.{digits_value}
 use Rattle.std.proofs.Math.Numerals.{one-add}
 use Rattle.std.proofs.lemmas.Bool.Decides.{nat_tests}
-use Rattle.rocks_version.specs.Components.{Component, Number, Word, is_alike, joined, runs_of, component_of, components}
+use Rattle.rocks_version.specs.Components.{Number, Word, is_alike, joined, runs_of, component_of, components}
 
 -- tests that agree take the same front
 same_front : (p q : ℕ → Bool) → ((b : ℕ) → p b ≡ q b) → (text : List ℕ) → prefix_len p text ≡ prefix_len q text

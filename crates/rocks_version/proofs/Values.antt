@@ -1,5 +1,5 @@
 -- The value of a few digits.
-use Rattle.std.proofs.Common.{◌≡◌, ℕ, zero, suc, ◌+◌, ◌-◌, ◌*◌, ◌^◌, ◌<◌, ◌≤◌, List, [], ◌∷◌, length, take, get_or, refl, true, false, Bool, arith}
+use Rattle.std.proofs.Common.{◌≡◌, ℕ, zero, suc, ◌+◌, ◌-◌, ◌*◌, ◌^◌, ◌<◌, ◌≤◌, List, [], ◌∷◌, length, take, get_or, true, arith}
 use Rattle.std.specs.List.{list_all}
 use Rattle.std.specs.Char.{is_ascii_digit, digit_value}
 use Rattle.std.specs.Str.Parse.{digits_value, AllDigits}
@@ -21,7 +21,7 @@ front_digits [] (suc i) h = tt
 front_digits (b ∷ bs) (suc i) h =
     (digit_below b (and_left (is_ascii_digit b) (list_all is_ascii_digit bs) h), front_digits bs i (and_right (is_ascii_digit b) (list_all is_ascii_digit bs) h))
 
-digit_at : (digits : List ℕ) (i : ℕ) → list_all is_ascii_digit digits ≡ true → i < length digits → is_ascii_digit (get_or digits i 0) ≡ true
+pub digit_at : (digits : List ℕ) (i : ℕ) → list_all is_ascii_digit digits ≡ true → i < length digits → is_ascii_digit (get_or digits i 0) ≡ true
 digit_at [] i h within = absurd (omega arith)
 digit_at (b ∷ bs) zero h within = and_left (is_ascii_digit b) (list_all is_ascii_digit bs) h
 digit_at (b ∷ bs) (suc i) h within = digit_at bs i (and_right (is_ascii_digit b) (list_all is_ascii_digit bs) h) (omega arith)

@@ -1,6 +1,6 @@
 -- The orders of versions. (LuaRocks; the order by bytes among versions that LuaRocks takes as equal is this project's
 -- own.)
-use Rattle.std.specs.Prelude.{ℕ, ◌==◌, ◌-◌, max, List, [], ◌∷◌, ◌++◌, length, slice_index, replicate, codes, if◌then◌else◌, Option, Some, None, unwrap_or}
+use Rattle.std.specs.Prelude.{ℕ, ◌==◌, ◌-◌, max, List, ◌++◌, length, slice_index, replicate, codes, if◌then◌else◌, Option, Some, unwrap_or}
 use Rattle.std.specs.Str.{bytes_eq}
 use Rattle.std.specs.declared.cmp.Ordering.{Ordering}
 use Rattle.std.specs.declared.cmp.Ordering.TheVariants.{Equal}

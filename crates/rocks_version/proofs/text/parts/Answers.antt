@@ -1,5 +1,4 @@
 use Rattle.std.proofs.Common.{ℕ, ◌-◌, not, length, refl, ap, arith}
-use Rattle.std.specs.List.{suffix_len}
 use Rattle.std.proofs.lemmas.List.{take_rest}
 use Rattle.std.proofs.lemmas.List.Sums.{suffix_len-le-length}
 use Rattle.rocks_version.specs.Texts.{is_dash}

@@ -1,0 +1,11 @@
+use Rattle.rocks_version.proofs.OrderLaws.{listing_irreflexive, listing_transitive, listing_connected}
+use Rattle.rocks_version.proofs.laws.listing_is_strict.Goals as goal
+
+pub returns-clause-irreflexive : goal.returns-clause-irreflexive
+returns-clause-irreflexive c = listing_irreflexive
+
+pub returns-clause-transitive : goal.returns-clause-transitive
+returns-clause-transitive c = listing_transitive
+
+pub returns-clause-connected : goal.returns-clause-connected
+returns-clause-connected c = listing_connected
