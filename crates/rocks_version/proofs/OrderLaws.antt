@@ -172,6 +172,14 @@ listing_transitive first second third h g =
     let less_too = lt_less (key_cmp second third) (rw (is_before_is second third) at g) in
     is_before_is first third ∙ ap is_lt (key_total.trans first second third less less_too)
 
+reverse_less : (o : Ordering) → o ≡ Less → is_lt (ordering_reverse o) ≡ false
+reverse_less o h = rw h refl
+
+pub listing_asymmetric : (left right : RockKey) → IsTrue (is_before left right) → is_before right left ≡ false
+listing_asymmetric left right h =
+    let less = lt_less (key_cmp left right) (rw (is_before_is left right) at h) in
+    is_before_is right left ∙ ap is_lt (key_total.antisymm right left) ∙ reverse_less (key_cmp left right) less
+
 key_equal : (left right : RockKey) → key_cmp left right ≡ Equal → left ≡ right
 unfolding key_cmp
 key_equal left right e =

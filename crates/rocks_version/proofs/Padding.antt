@@ -8,10 +8,11 @@ use Rattle.std.specs.Cmp.{IsTotalOrder}
 use Rattle.std.specs.Cmp.Lexicographic.{slice_cmp}
 use Rattle.std.proofs.lemmas.Cmp.{nat_cmp_total, on_total, then_total, lists_total, tied_itself}
 use Rattle.rocks_version.specs.Components.{Component, Number}
-use Rattle.rocks_version.specs.Orders.{component_cmp, components_cmp, padded, step_of, place_of}
+use Rattle.rocks_version.specs.declared.component.Step.{Step}
+use Rattle.rocks_version.specs.Orders.{component_cmp, components_cmp, height_of, padded, place_of, step_cmp, step_of}
 
 pub component_total : IsTotalOrder component_cmp
-component_total = then_total (on_total step_of nat_cmp_total) (on_total place_of nat_cmp_total)
+component_total = then_total (on_total step_of (on_total height_of nat_cmp_total)) (on_total place_of nat_cmp_total)
 
 -- so many of the components and of the zeros behind them
 abbrev zeros_behind : ℕ → List Component → List Component
@@ -93,10 +94,10 @@ ended Equal rest unequal = absurd (unequal refl)
 ended Greater rest unequal = refl
 
 -- the first components, known by their steps and places
-module _ (cs ds : List Component) (left_step left_place right_step right_place : ℕ) (order : Ordering)
+module _ (cs ds : List Component) (left_step right_step : Step) (left_place right_place : ℕ) (order : Ordering)
     (is_left_step : left_step ≡ step_of (slice_index_or cs 0 (Number 0))) (is_left_place : left_place ≡ place_of (slice_index_or cs 0 (Number 0)))
     (is_right_step : right_step ≡ step_of (slice_index_or ds 0 (Number 0))) (is_right_place : right_place ≡ place_of (slice_index_or ds 0 (Number 0)))
-    (is_order : order ≡ ordering_then (nat_cmp left_step right_step) (nat_cmp left_place right_place)) where
+    (is_order : order ≡ ordering_then (step_cmp left_step right_step) (nat_cmp left_place right_place)) where
   first_order : component_cmp (slice_index_or cs 0 (Number 0)) (slice_index_or ds 0 (Number 0)) ≡ order
   first_order = rw (← is_left_step, ← is_right_step, ← is_left_place, ← is_right_place) (sym is_order)
 

@@ -1,5 +1,4 @@
--- The components of a version's body: numbers and words. (LuaRocks; that other words go by their first byte alone is
--- LuaRocks' own too.)
+-- The components of a version: numbers and words. (LuaRocks.)
 use Rattle.std.specs.Prelude.{ℕ, Bool, not, List, [], ◌∷◌, if◌then◌else◌, Option, Some, None}
 use Rattle.std.specs.List.{filter_map}
 use Rattle.std.specs.Char.{is_ascii_alphanumeric, is_ascii_alphabetic, is_ascii_digit}

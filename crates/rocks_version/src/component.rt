@@ -8,12 +8,36 @@ ghost use Rattle.rocks_version.specs.Texts.{has_short_numbers};
 
 use crate::text::{digit_count, number};
 
-/// Where a component stands in their order: on which step, and at which place of it. The steps are `alpha`, `beta`,
-/// `pre`, `rc`, the number 0, other words, which go by their first byte, other numbers, `cvs`, `scm` and `dev`
-/// (LuaRocks).
+/// The steps of the order of components, from the lowest to the highest (LuaRocks).
+#[derive(Clone, Copy, Debug, PartialEq, Eq, PartialOrd, Ord)]
+pub enum Step {
+    /// The word `alpha`.
+    Alpha,
+    /// The word `beta`.
+    Beta,
+    /// The word `pre`.
+    Pre,
+    /// The word `rc`.
+    Rc,
+    /// The number 0.
+    Zero,
+    /// Any word that is none of these.
+    Other,
+    /// A number above 0.
+    Positive,
+    /// The word `cvs`.
+    Cvs,
+    /// The word `scm`.
+    Scm,
+    /// The word `dev`.
+    Dev,
+}
+
+/// Where a component stands in the order: on which step, and at which place of it. Numbers stand there by themselves,
+/// and words by their first byte.
 #[derive(Clone, Copy, Debug, PartialEq, Eq, PartialOrd, Ord)]
 pub struct Rung {
-    pub step: u8,
+    pub step: Step,
     pub place: u64,
 }
 
@@ -98,7 +122,11 @@ fn number_rung(number: u64) -> Rung
     ensures place { result.place ≡ number }
 {
     Rung {
-        step: if number == 0 { 4 } else { 6 },
+        step: if number == 0 {
+            Step::Zero
+        } else {
+            Step::Positive
+        },
         place: number,
     }
 }
@@ -115,24 +143,24 @@ fn word_rung(word: &[u8]) -> Rung
 }
 
 #[tactic(auto, unfolding(crate::specs::Orders::word_step))]
-fn word_step(word: &[u8]) -> u8
+fn word_step(word: &[u8]) -> Step
     ensures { result ≡ word_step word.now }
 {
     if word == b"alpha".as_slice() {
-        0
+        Step::Alpha
     } else if word == b"beta".as_slice() {
-        1
+        Step::Beta
     } else if word == b"pre".as_slice() {
-        2
+        Step::Pre
     } else if word == b"rc".as_slice() {
-        3
+        Step::Rc
     } else if word == b"cvs".as_slice() {
-        7
+        Step::Cvs
     } else if word == b"scm".as_slice() {
-        8
+        Step::Scm
     } else if word == b"dev".as_slice() {
-        9
+        Step::Dev
     } else {
-        5
+        Step::Other
     }
 }

@@ -40,11 +40,13 @@ pub fn comparison_is_a_preorder()
         ≡ ordering_then (version_cmp left right) (slice_cmp nat_cmp left right) }
 {}
 
-/// No rock is listed before itself, and of two different ones one is listed before the other, never both.
+/// No rock is listed before itself, and of two different ones one is listed before the other, and never both.
 pub fn listing_is_strict()
     ensures irreflexive { (key : RockKey) → is_before key key ≡ false }
     ensures transitive { (first second third : RockKey) → IsTrue (is_before first second)
         → IsTrue (is_before second third) → IsTrue (is_before first third) }
+    ensures asymmetric { (left right : RockKey) → IsTrue (is_before left right)
+        → is_before right left ≡ false }
     ensures connected { (left right : RockKey)
         → (left ≡ right) ⊎ (IsTrue (is_before left right) ⊎ IsTrue (is_before right left)) }
 {}

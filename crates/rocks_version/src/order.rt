@@ -1,12 +1,12 @@
 ghost use Rattle.std.specs.Prelude.{◌≡◌, unwrap_or, IsTrue};
-ghost use Rattle.std.specs.Ordering.{nat_cmp};
+ghost use Rattle.std.specs.Ordering.{nat_cmp, ordering_then};
 ghost use Rattle.rocks_version.specs.Components.{components};
-ghost use Rattle.rocks_version.specs.Orders.{components_cmp, body_cmp, revision_cmp};
+ghost use Rattle.rocks_version.specs.Orders.{step_cmp, components_cmp, body_cmp, revision_cmp};
 ghost use Rattle.rocks_version.specs.Orders.{version_cmp, version_rank};
 ghost use Rattle.rocks_version.specs.Texts.{is_version, has_short_numbers};
 
 use crate::Version;
-use crate::component::first;
+use crate::component::{Rung, first};
 use crate::text::{body, revision};
 use std::cmp::Ordering;
 
@@ -68,10 +68,16 @@ fn compare_components(left: &[u8], right: &[u8]) -> Ordering
     }
     let (left_rung, left_rest) = first(left);
     let (right_rung, right_rest) = first(right);
-    match left_rung.cmp(&right_rung) {
+    match compare_rungs(left_rung, right_rung) {
         Ordering::Equal => compare_components(left_rest, right_rest),
         unequal => unequal,
     }
+}
+
+fn compare_rungs(left: Rung, right: Rung) -> Ordering
+    ensures { result ≡ ordering_then (step_cmp left.step right.step) (nat_cmp left.place right.place) }
+{
+    left.cmp(&right)
 }
 
 fn compare_revisions(left: Option<u64>, right: Option<u64>) -> Ordering

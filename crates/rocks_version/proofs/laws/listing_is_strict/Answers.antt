@@ -1,4 +1,4 @@
-use Rattle.rocks_version.proofs.OrderLaws.{listing_irreflexive, listing_transitive, listing_connected}
+use Rattle.rocks_version.proofs.OrderLaws.{listing_irreflexive, listing_transitive, listing_asymmetric, listing_connected}
 use Rattle.rocks_version.proofs.laws.listing_is_strict.Goals as goal
 
 pub returns-clause-irreflexive : goal.returns-clause-irreflexive
@@ -9,3 +9,6 @@ returns-clause-transitive c = listing_transitive
 
 pub returns-clause-connected : goal.returns-clause-connected
 returns-clause-connected c = listing_connected
+
+pub returns-clause-asymmetric : goal.returns-clause-asymmetric
+returns-clause-asymmetric c = listing_asymmetric

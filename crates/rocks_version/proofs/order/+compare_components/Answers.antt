@@ -10,8 +10,8 @@ returns-then-is_empty-2 t c = compared_none _ _ (no_components c.args.left.now (
 pub returns-in-Equal : goal.returns-in-Equal
 returns-in-Equal t c =
     rw (c.compare_components.ensures, c.first.ensures.rest, c.first-2.ensures.rest)
-    (compared_equal _ _ _ _ _ _ _ c.first.ensures.step c.first.ensures.place c.first-2.ensures.step c.first-2.ensures.place c.cmp.ensures c.in-Equal.is)
+    (compared_equal _ _ _ _ _ _ _ c.first.ensures.step c.first.ensures.place c.first-2.ensures.step c.first-2.ensures.place c.compare_rungs.ensures c.in-Equal.is)
 
 pub returns-in_default : goal.returns-in_default
 returns-in_default t c =
-    compared_unequal _ _ _ _ _ _ _ c.first.ensures.step c.first.ensures.place c.first-2.ensures.step c.first-2.ensures.place c.cmp.ensures c.in_default.not-Equal
+    compared_unequal _ _ _ _ _ _ _ c.first.ensures.step c.first.ensures.place c.first-2.ensures.step c.first-2.ensures.place c.compare_rungs.ensures c.in_default.not-Equal
