@@ -70,7 +70,8 @@ pub fn first(body: &[u8]) -> (Rung, &[u8])
 fn past_separators(body: &[u8]) -> &[u8]
     requires { IsTrue (has_short_numbers body.now) }
     ensures components { components result.now ≡ components body.now }
-    ensures begins { 0 < length result.now → IsTrue (is_ascii_alphanumeric (slice_index result.now 0)) }
+    ensures begins { 0 < length result.now
+        → IsTrue (is_ascii_alphanumeric (slice_index result.now 0)) }
     ensures short { IsTrue (has_short_numbers result.now) }
     ensures no_longer { length result.now ≤ length body.now }
 {

@@ -55,7 +55,8 @@ pub fn listing_is_strict()
 pub fn versions_have_short_numbers()
     ensures no_fault { (text : List ℕ) → (fault_of text ≡ None) ↔ IsTrue (is_version text) }
     ensures short { (before digits after : List ℕ)
-        → IsTrue (is_version (before ++ (digits ++ after))) → IsTrue (list_all is_ascii_digit digits)
+        → IsTrue (is_version (before ++ (digits ++ after)))
+        → IsTrue (list_all is_ascii_digit digits)
         → length digits ≤ 18 }
 {}
 

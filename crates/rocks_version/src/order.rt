@@ -75,7 +75,8 @@ fn compare_components(left: &[u8], right: &[u8]) -> Ordering
 }
 
 fn compare_rungs(left: Rung, right: Rung) -> Ordering
-    ensures { result ≡ ordering_then (step_cmp left.step right.step) (nat_cmp left.place right.place) }
+    ensures { result
+        ≡ ordering_then (step_cmp left.step right.step) (nat_cmp left.place right.place) }
 {
     left.cmp(&right)
 }

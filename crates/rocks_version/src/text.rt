@@ -121,7 +121,8 @@ pub fn revision(text: &[u8]) -> Option<u64>
 fn parts(text: &[u8]) -> Option<(&[u8], &[u8])>
     ensures { MatchOption result (has_revision text.now ≡ false) (λ parts.
         (has_revision text.now ≡ true)
-        × (parts.0.now ≡ before_last is_dash text.now) × (parts.1.now ≡ after_last is_dash text.now)) }
+        × (parts.0.now ≡ before_last is_dash text.now)
+        × (parts.1.now ≡ after_last is_dash text.now)) }
 {
     let behind = text.len() - bytes_behind_dash(text);
     if behind <= 1 {
