@@ -1,0 +1,4 @@
+pub mod One
+pub mod Fitting
+pub mod Integers
+pub mod Names
