@@ -11,7 +11,7 @@ use Rattle.rocks_session.specs.Execute.{CarriesOut, Executes, IsLeft}
 use Rattle.rocks_session.specs.Faults.{HasCause, IsShelfFault, IsDeviceFault}
 use Rattle.rocks_session.specs.Opened.{IsOpenAs}
 use Rattle.rocks_session.specs.Staged.{Installs, IsOffer}
-use Rattle.rocks_session.specs.Step.{step, refused, refusal_text, IsRefusalOf}
+use Rattle.rocks_session.specs.Step.{adds, refused, refusal_text, IsRefusalOf}
 use Rattle.rocks_session.specs.declared.fault.SessionFault.{SessionFault}
 use Rattle.rocks_session.specs.declared.fault.SessionFault.TheVariants as session_fault
 use Rattle.rocks_session.specs.declared.reply.Refusal.{Refusal}
@@ -23,7 +23,7 @@ use Rattle.rocks_session.specs.declared.version.RockKey.{RockKey}
 use Rattle.rocks_session.specs.declared.words.Command.{Command}
 use Rattle.rocks_session.specs.declared.words.Command.TheVariants.{Add}
 use Rattle.rocks_session.proofs.Asking.{Stays}
-use Rattle.rocks_session.proofs.Installed.{not_the_text}
+use Rattle.rocks_session.proofs.Installed.{not_the_text, only_added}
 use Rattle.rocks_session.proofs.Writing.{no_tick}
 
 pub left : (keys : List RockKey) (device : DeviceState) → IsLeft keys keys device device
@@ -51,6 +51,7 @@ module _ (command : Command) (keys : List RockKey) (device : DeviceState) (shelf
     carried = carried;
     refused = λ _. left keys device;
     broken_off = λ e. cc;
+    untouched = λ _. left keys device;
     keeps = record { said = refl; clock = omega arith; holds = stays.holds; servers = stays.servers; device_faults = omega arith; shelf_faults = stays.faults; cause = tt };
   }
 
@@ -60,22 +61,23 @@ module _ (command : Command) (keys : List RockKey) (device : DeviceState) (shelf
     carried = tt;
     refused = tt;
     broken_off = λ _. left keys device;
+    untouched = λ _. left keys device;
     keeps = record { said = refl; clock = omega arith; holds = stays.holds; servers = stays.servers; device_faults = omega arith; shelf_faults = stays.faults; cause = cause_of_shelf fault _ _ _ is };
   }
 
 module _ (key : RockKey) (keys : List RockKey) (device : DeviceState) where
   -- a refusal, where it is the model's
   refused_so : (holds : Option (List Files)) (refusal : Refusal) (reply : Reply) → reply.refusal ≡ Some refusal → reply.text ≡ refusal_text refusal → IsRefusalOf key refusal
-      → ((set : List Rock) → IfSome holds (λ held. refused set refusal ≡ step held set (Add key)))
+      → ((set : List Rock) → IfSome holds (λ held. refused set refusal ≡ adds held set key))
       → (set : List Rock) → IsOpenAs set keys device → CarriesOut (Add key) set holds reply keys device device
   refused_so holds refusal reply is says of_key told set opened = record {
     outcome = refused set refusal;
-    model = record { told = told set; own = inr (refusal, of_key, refl) };
+    model = record { told = told set; only = only_added holds set key _ (told set); own = inr (refusal, of_key, refl) };
     refusal = is;
     text = says;
     tree = opened.tree;
     files = opened.opens.files;
-    clock = no_tick device.files device.clock;
+    clock = no_tick device.files device.clock set (refused set refusal) refl;
   }
 
   told_always : (holds : Option (List Files)) (P : List Files → Type 0) → ((held : List Files) → P held) → IfSome holds P
@@ -89,7 +91,7 @@ module _ (key : RockKey) (keys : List RockKey) (device : DeviceState) where
       → IfSome holds (λ servers. IsOffer servers key offers.Absent) → (set : List Rock) → IsOpenAs set keys device → CarriesOut (Add key) set holds reply keys device device
   no_rock holds reply kept same other is says offer = refused_so holds (NoRock kept) reply is says (not_the_text _ _ other, same) (λ set. from set holds offer)
     where
-      from : (set : List Rock) (h : Option (List Files)) → IfSome h (λ servers. IsOffer servers key offers.Absent) → IfSome h (λ held. refused set (NoRock kept) ≡ step held set (Add key))
+      from : (set : List Rock) (h : Option (List Files)) → IfSome h (λ servers. IsOffer servers key offers.Absent) → IfSome h (λ held. refused set (NoRock kept) ≡ adds held set key)
       from set None o = tt
       from set (Some held) o = rw (other, o) (ap (λ (k : RockKey). refused set (NoRock k)) same)
 
@@ -97,26 +99,28 @@ module _ (key : RockKey) (keys : List RockKey) (device : DeviceState) where
       → IfSome holds (λ servers. IsOffer servers key offers.NotServed) → (set : List Rock) → IsOpenAs set keys device → CarriesOut (Add key) set holds reply keys device device
   not_served holds reply kept same other is says offer = refused_so holds (NotServed kept) reply is says (not_the_text _ _ other, same) (λ set. from set holds offer)
     where
-      from : (set : List Rock) (h : Option (List Files)) → IfSome h (λ servers. IsOffer servers key offers.NotServed) → IfSome h (λ held. refused set (NotServed kept) ≡ step held set (Add key))
+      from : (set : List Rock) (h : Option (List Files)) → IfSome h (λ servers. IsOffer servers key offers.NotServed) → IfSome h (λ held. refused set (NotServed kept) ≡ adds held set key)
       from set None o = tt
       from set (Some held) o = rw (other, o.1, o.2) (ap (λ (k : RockKey). refused set (NotServed k)) same)
 
-module _ (command : Command) (key : RockKey) (staged : List Staged) (keys_before keys_now : List RockKey) (before now : DeviceState) (shelf_before shelf_now : ShelfState) (stays : Stays shelf_before shelf_now) where
+module _ (key : RockKey) (staged : List Staged) (keys_before keys_now : List RockKey) (before now : DeviceState) (shelf_before shelf_now : ShelfState) (stays : Stays shelf_before shelf_now) where
   -- a rock that was installed
-  pub installs_done : (done : Unit {0}) (text : List ℕ) → Installs (Ok done) key staged keys_before keys_now before now → ((set : List Rock) → IsOpenAs set keys_before before → CarriesOut command set shelf_before.holds (record { refusal = None; text = text }) keys_now before now)
-      → Executes command (Ok (record { refusal = None; text = text })) keys_before keys_now before now shelf_before shelf_now
+  pub installs_done : (done : Unit {0}) (text : List ℕ) → Installs (Ok done) key staged keys_before keys_now before now → ((set : List Rock) → IsOpenAs set keys_before before → CarriesOut (Add key) set shelf_before.holds (record { refusal = None; text = text }) keys_now before now)
+      → Executes (Add key) (Ok (record { refusal = None; text = text })) keys_before keys_now before now shelf_before shelf_now
   installs_done done text installs carried = record {
     carried = carried;
     refused = λ is. cc;
     broken_off = λ e. cc;
+    untouched = λ is. absurd is;
     keeps = record { said = installs.said; clock = installs.clock; holds = stays.holds; servers = stays.servers; device_faults = installs.faults; shelf_faults = stays.faults; cause = tt };
   }
 
   -- a fault while it is installed
-  pub installs_failed : (fault : SessionFault) → Installs (Err fault) key staged keys_before keys_now before now → Executes command (Err fault) keys_before keys_now before now shelf_before shelf_now
+  pub installs_failed : (fault : SessionFault) → Installs (Err fault) key staged keys_before keys_now before now → Executes (Add key) (Err fault) keys_before keys_now before now shelf_before shelf_now
   installs_failed fault installs = record {
     carried = tt;
     refused = tt;
     broken_off = λ e. absurd (not_of_shelf fault _ _ installs.cause e);
+    untouched = λ is. absurd is;
     keeps = record { said = installs.said; clock = installs.clock; holds = stays.holds; servers = stays.servers; device_faults = installs.faults; shelf_faults = stays.faults; cause = cause_of_device fault _ _ _ _ installs.cause };
   }

@@ -8,9 +8,9 @@ use Rattle.rocks_outside.specs.declared.fault.DeviceError.{DeviceError}
 use Rattle.rocks_outside.specs.declared.fault.DeviceError.TheVariants as device_error
 use Rattle.tree_model.specs.Rock.{Rock}
 use Rattle.tree_model.specs.Tree.{tree_of}
-use Rattle.rocks_session.specs.Execute.{CarriesOut}
+use Rattle.rocks_session.specs.Execute.{CarriesOut, IsEval, IsLeft}
 use Rattle.rocks_session.specs.Opened.{Opens, IsTreeOf, IsOpenAs}
-use Rattle.rocks_session.specs.Step.{Outcome, step, ticks}
+use Rattle.rocks_session.specs.Step.{Outcome, IsStep, ticks}
 use Rattle.rocks_session.specs.Run.{Runs, IsUntouched, SaysAtMost, status_of}
 use Rattle.rocks_session.specs.declared.reply.Reply.{Reply}
 use Rattle.rocks_session.specs.declared.reply.Refusal.{Refusal}
@@ -18,6 +18,7 @@ use Rattle.rocks_session.specs.declared.status.Status.{Status}
 use Rattle.rocks_session.specs.declared.status.Status.TheVariants.{Done, Refused}
 use Rattle.rocks_session.specs.declared.version.RockKey.{RockKey}
 use Rattle.rocks_session.specs.declared.words.Command.{Command}
+use Rattle.rocks_session.specs.declared.words.Command.TheVariants.{Eval}
 use Rattle.rocks_session.specs.declared.fault.WordsFault.{WordsFault}
 
 abbrev Read : Type 0
@@ -42,7 +43,7 @@ nothing text (Some said) now same = subst (λ s. AtMost text (Some said) s) (sym
 -- where nothing was said
 pub says_nothing : (read : Read) (servers : Held) (before now : DeviceState) → now.said ≡ before.said → SaysAtMost read servers before now
 says_nothing read None before now same = λ command set is opens. tt
-says_nothing read (Some held) before now same = λ command set is opens. nothing (step held set command).text before.said now.said same
+says_nothing read (Some held) before now same = λ command set is opens outcome step. nothing outcome.text before.said now.said same
 
 -- a part of a reply, said after nothing was
 part_of : (text bytes : List ℕ) (first exec now : Option (List ℕ)) → exec ≡ first → bytes ≡ text → AtMost bytes exec now → AtMost text first now
@@ -68,15 +69,16 @@ module _ (command : Command) (servers : Held) (reply : Reply) (keys keys_now : L
 
   -- where a first part of the reply was said
   says_part : (read : Read) (bytes : List ℕ) → read ≡ Ok command → bytes ≡ reply.text → AtMost bytes exec.said now.said → SaysAtMost read servers first now
-  says_part read bytes is same said = λ other set says_so opens. from other set says_so (carries set opens) servers (carries set opens).model.told
+  says_part read bytes is same said = λ other set says_so opens. from other set says_so (carries set opens) servers (carries set opens).model.only
     where
-      from : (other : Command) (set : List Rock) → read ≡ Ok other → (done : CarriesOut command set servers reply keys_now mid exec) → (h : Held) → IfSome h (λ held. done.outcome ≡ step held set command)
-          → IfSome h (λ held. AtMost (step held set other).text first.said now.said)
-      from other set says_so done None told = tt
-      from other set says_so done (Some held) told =
+      from : (other : Command) (set : List Rock) → read ≡ Ok other → (done : CarriesOut command set servers reply keys_now mid exec) → (h : Held) → IfSome h (λ held. (outcome : Outcome) → IsStep held set command outcome → outcome ≡ done.outcome)
+          → IfSome h (λ held. (outcome : Outcome) → IsStep held set other outcome → AtMost outcome.text first.said now.said)
+      from other set says_so done None only = tt
+      from other set says_so done (Some held) only = λ outcome step.
           let one : Ok command ≡ Ok other = sym is ∙ says_so in
           let commands : command ≡ other = cc in
-          let text : bytes ≡ (step held set other).text = same ∙ done.text ∙ ap (λ (o : Outcome). o.text) told ∙ ap (λ (c : Command). (step held set c).text) commands in
+          let steps : IsStep held set command outcome = subst (λ (c : Command). IsStep held set c outcome) (sym commands) step in
+          let text : bytes ≡ outcome.text = same ∙ done.text ∙ sym (ap (λ (o : Outcome). o.text) (only outcome steps)) in
           part_of _ bytes first.said exec.said now.said silent text said
 
   pub says_all : (read : Read) (bytes : List ℕ) (u : Unit {0}) → read ≡ Ok command → bytes ≡ reply.text → SaysOnly (Ok u) bytes exec now → SaysAtMost read servers first now
@@ -113,6 +115,13 @@ module _ (command : Command) (servers : Held) (reply : Reply) (keys keys_now : L
       ticked (Some files) mid_files (Some after) n same_files told worked up =
           let spent = subst (λ f. IfSome f (λ _. exec.clock ≡ mid.clock + n)) (sym same_files) worked in
           omega (arith, spent, up, left.clock)
+
+-- after `eval` the files are as they were
+pub files_kept : (read : Read) (command : Command) (path : List ℕ) (keys keys_now : List RockKey) (first mid exec now : DeviceState) → IsUntouched first mid → (IsEval command → IsLeft keys keys_now mid exec) → now.files ≡ exec.files → read ≡ Ok command → read ≡ Ok (Eval path) → now.files ≡ first.files
+files_kept read command path keys keys_now first mid exec now left untouched same is evaluates =
+    let both : Ok command ≡ Ok (Eval path) = sym is ∙ evaluates in
+    let command_is : command ≡ Eval path = cc in
+    same ∙ (untouched (subst IsEval (sym command_is) tt)).files ∙ left.files
 
 pub refused_ends : (refusal : Option Refusal) → is_some refusal ≡ true → Refused ≡ status_of refusal
 refused_ends None e = cc

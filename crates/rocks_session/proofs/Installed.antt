@@ -1,6 +1,7 @@
 -- After the files of an offered rock are written over the empty tree, it is the tree of the set with that rock.
-use Rattle.std.proofs.Common.{◌≡◌, ◌≢◌, ◌+◌, ℕ, false, List, [], ◌∷◌, Option, None, Some, IfSome, length, map, refl, sym, ap, ◌∙◌, subst, codes, arith, inl, Vec, Global, ◌-◌}
+use Rattle.std.proofs.Common.{◌≡◌, ◌≢◌, ◌<◌, ◌+◌, ℕ, false, List, [], ◌∷◌, Option, None, Some, IfSome, length, map, refl, sym, ap, ◌∙◌, subst, codes, arith, inl, Vec, Global, ◌-◌}
 use Rattle.std.proofs.lemmas.List.{append-nil, length-map}
+use Rattle.std.proofs.lemmas.Bool.Decides.{nat_tests}
 use Rattle.std.proofs.lemmas.Slice.Eq.{bytes_eq-Decides}
 use Rattle.std.specs.Prelude.{Ok}
 use Rattle.std.specs.Str.{bytes_eq}
@@ -13,7 +14,7 @@ use Rattle.tree_model.specs.Tree.{files_of, tree_of, file_count, HaveOwnPaths}
 use Rattle.rocks_session.specs.Execute.{CarriesOut}
 use Rattle.rocks_session.specs.Opened.{IsOpenAs}
 use Rattle.rocks_session.specs.Staged.{file_of, put_all, IsSound, IsOffer, Installs}
-use Rattle.rocks_session.specs.Step.{step, key_of, joined_by, added_text}
+use Rattle.rocks_session.specs.Step.{Outcome, adds, key_of, joined_by, added_text, ticks_for}
 use Rattle.rocks_session.specs.Unpacked.{unpacked}
 use Rattle.rocks_session.specs.declared.reply.Reply.{Reply}
 use Rattle.rocks_session.specs.declared.take.Staged.{Staged}
@@ -21,6 +22,11 @@ use Rattle.rocks_session.specs.declared.take.Offer.TheVariants.{Rock as Ready}
 use Rattle.rocks_session.specs.declared.version.RockKey.{RockKey}
 use Rattle.rocks_session.specs.declared.words.Command.TheVariants.{Add}
 use Rattle.rocks_session.proofs.Put.{tree_of_one}
+
+-- `add` has one outcome
+pub only_added : (holds : Option (List Files)) (set : List Rock) (key : RockKey) (outcome : Outcome) → IfSome holds (λ held. outcome ≡ adds held set key) → IfSome holds (λ held. (other : Outcome) → other ≡ adds held set key → other ≡ outcome)
+only_added None set key outcome told = tt
+only_added (Some held) set key outcome told = λ other is. is ∙ sym told
 
 -- what a test of texts that failed says
 pub not_the_text : (text other : List ℕ) → bytes_eq text other ≡ false → text ≢ other
@@ -37,19 +43,21 @@ module _ (key : RockKey) (vec : Vec Staged Global) (before now : DeviceState) wh
   counted : (rock : Rock) → map file_of vec.items ≡ files_of rock → length vec.items ≡ file_count (rock ∷ [])
   counted rock same = sym (length-map vec.items file_of) ∙ ap length same ∙ ap length (sym (append-nil (files_of rock)))
 
-  ticked : (rock : Rock) (first : Option Files) → map file_of vec.items ≡ files_of rock → IfSome first (λ _. now.clock ≡ before.clock + length vec.items + 1) → IfSome first (λ _. now.clock ≡ before.clock + (file_count (rock ∷ []) - file_count [] + 1))
+  ticked : (rock : Rock) (first : Option Files) → map file_of vec.items ≡ files_of rock → IfSome first (λ _. now.clock ≡ before.clock + length vec.items + 1) → IfSome first (λ _. now.clock ≡ before.clock + ticks_for (file_count (rock ∷ []) - file_count []))
   ticked rock None same tick = tt
-  ticked rock (Some files) same tick = omega (arith, tick, counted rock same)
+  ticked rock (Some files) same tick =
+      let some : 0 < file_count (rock ∷ []) = omega arith in
+      grind (arith, nat_tests, tick, counted rock same)
 
   module _ (keys_before keys_now : List RockKey) (text : List ℕ) (other : bytes_eq key.name (codes "lua") ≡ false) (says : text ≡ added_text key) where
     abbrev reply : Reply
     reply = record { refusal = None; text = text }
 
-    from_empty : (holds : Option (List Files)) (rock : Rock) → key_of rock ≡ key → map file_of vec.items ≡ files_of rock → HaveOwnPaths (files_of rock) → IfSome holds (λ held. joined_by [] rock ≡ step held [] (Add key))
+    from_empty : (holds : Option (List Files)) (rock : Rock) → key_of rock ≡ key → map file_of vec.items ≡ files_of rock → HaveOwnPaths (files_of rock) → IfSome holds (λ held. joined_by [] rock ≡ adds held [] key)
         → IsOpenAs [] keys_before before → (done : Unit {0}) → Installs (Ok done) key vec.items keys_before keys_now before now → CarriesOut (Add key) [] holds reply keys_now before now
     from_empty holds rock is same own told opened done installs = record {
       outcome = joined_by [] rock;
-      model = record { told = told; own = inl (rock, not_the_text key.name (codes "lua") other, is, refl) };
+      model = record { told = told; only = only_added holds [] key _ told; own = inl (rock, not_the_text key.name (codes "lua") other, is, refl) };
       refusal = refl;
       text = says ∙ ap added_text (sym is);
       tree = installs.tree ∙ rw opened.tree (ap (λ (k : RockKey). k ∷ []) (sym is));

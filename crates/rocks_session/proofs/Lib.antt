@@ -2,6 +2,7 @@ mod Adding
 mod Asking
 mod Carried
 mod Complete
+mod Evaluating
 mod Folder
 mod FromWords
 mod Installed
@@ -12,5 +13,6 @@ mod Opening
 mod PathTexts
 mod Put
 mod Servers
+mod Steps
 mod Strip
 mod Writing

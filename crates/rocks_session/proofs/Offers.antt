@@ -13,8 +13,9 @@ use Rattle.rocks_text.specs.Paths.{below}
 use Rattle.tree_model.proofs.PathTies.{by_bool, tied}
 use Rattle.tree_model.specs.Tree.{rockspec_name}
 use Rattle.rocks_session.specs.Unpacked.{unpacked_folder, unpacked_rockspec, is_file_within, is_taken, is_whole_taken}
-use Rattle.rocks_session.specs.Staged.{IsFoundIn, IsOffer, FolderOffers}
-use Rattle.rocks_session.specs.declared.take.Found.TheVariants.{TooLong, At}
+use Rattle.rocks_session.specs.Search.{IsFoundIn}
+use Rattle.rocks_session.specs.Staged.{IsOffer, FolderOffers}
+use Rattle.rocks_session.specs.declared.search.Found.TheVariants.{TooLong, At}
 use Rattle.rocks_session.specs.declared.take.Offer.{Offer}
 use Rattle.rocks_session.specs.declared.take.Offer.TheVariants.{Absent, NotServed, Rock as Ready}
 use Rattle.rocks_session.specs.declared.version.RockKey.{RockKey}
@@ -56,14 +57,14 @@ spec_refuses key files there long =
     let fails : is_taken files key.name key.version spec ≡ false = rw itself long in
     refuses (is_taken files key.name key.version) (unpacked_folder key.name key.version) spec (keys files) (sym (contains_key-keys files (unpacked_rockspec key.name key.version)) ∙ there) fails
 
-pub too_long_offer : (key : RockKey) (holds : Option (List Files)) → IfSome holds (λ servers. IsFoundIn servers (unpacked_rockspec key.name key.version) TooLong) → IfSome holds (λ servers. IsOffer servers key NotServed)
+pub too_long_offer : (key : RockKey) (holds : Option (List Files)) → IfSome holds (λ servers. IsFoundIn 262144 servers (unpacked_rockspec key.name key.version) TooLong) → IfSome holds (λ servers. IsOffer servers key NotServed)
 too_long_offer key None found = tt
 too_long_offer key (Some servers) found = (found.0, found.1, spec_refuses key found.0 found.2 found.3)
 
-pub folder_offer : (key : RockKey) (server : ℕ) (spec : List ℕ) (offer : Offer) (holds now : Option (List Files)) → now ≡ holds → IfSome holds (λ servers. IsFoundIn servers (unpacked_rockspec key.name key.version) (At server spec)) → FolderOffers key server spec offer now → IfSome holds (λ servers. IsOffer servers key offer)
+pub folder_offer : (key : RockKey) (server : ℕ) (spec : List ℕ) (offer : Offer) (holds now : Option (List Files)) → now ≡ holds → IfSome holds (λ servers. IsFoundIn 262144 servers (unpacked_rockspec key.name key.version) (At server spec)) → FolderOffers key server spec offer now → IfSome holds (λ servers. IsOffer servers key offer)
 folder_offer key server spec offer holds now same found offered = from offer holds found (subst (FolderOffers key server spec offer) same offered)
   where
-    from : (o : Offer) (h : Option (List Files)) → IfSome h (λ servers. IsFoundIn servers (unpacked_rockspec key.name key.version) (At server spec)) → FolderOffers key server spec o h → IfSome h (λ servers. IsOffer servers key o)
+    from : (o : Offer) (h : Option (List Files)) → IfSome h (λ servers. IsFoundIn 262144 servers (unpacked_rockspec key.name key.version) (At server spec)) → FolderOffers key server spec o h → IfSome h (λ servers. IsOffer servers key o)
     from o None f all = tt
     from Absent (Some servers) f all = absurd (all f.0 f.2 f.3 f.4)
     from NotServed (Some servers) f all = (f.0, f.1, all f.0 f.2 f.3 f.4)

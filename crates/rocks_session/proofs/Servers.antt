@@ -6,8 +6,8 @@ use Rattle.rocks_text.specs.Files.{Files}
 use Rattle.rocks_outside.specs.Shelf.{held_at, IsRead}
 use Rattle.rocks_outside.specs.declared.shelf.ShelfRead.{ShelfRead}
 use Rattle.rocks_outside.specs.declared.shelf.ShelfRead.TheVariants.{Absent, TooLong, Bytes}
-use Rattle.rocks_session.specs.declared.take.Found.TheVariants as at
-use Rattle.rocks_session.specs.Staged.{IsFoundIn}
+use Rattle.rocks_session.specs.declared.search.Found.TheVariants as at
+use Rattle.rocks_session.specs.Search.{IsFoundIn}
 use Rattle.rocks_session.specs.Unpacked.{earliest_with, is_file_within}
 
 -- a server that lacks the path is passed over
@@ -22,38 +22,38 @@ found path bytes [] i here = cc
 found path bytes (files ∷ servers) zero here = (files, refl, here, ap (λ (o : Option (List ℕ)). cond (is_some o) (Some files) (earliest_with path servers)) here)
 found path bytes (files ∷ servers) (suc i) here = found path bytes servers i here
 
-module _ (path : List ℕ) (i : ℕ) (read : ShelfRead) where
+module _ (limit : ℕ) (path : List ℕ) (i : ℕ) (read : ShelfRead) where
   -- what a read says, and how far no server had the path, where the shelf tells
   abbrev Reads : Option (List Files) → Type 0
-  Reads now = IfSome now (λ servers. IsRead 262144 (held_at servers i path) read)
+  Reads now = IfSome now (λ servers. IsRead limit (held_at servers i path) read)
 
   abbrev NoneBefore : Option (List Files) → ℕ → Type 0
   NoneBefore holds k = IfSome holds (λ servers. earliest_with path (drop k servers) ≡ earliest_with path servers)
 
-  not_within : (bytes : List ℕ) (held : Option (List ℕ)) → held ≡ Some bytes → 262144 < length bytes → is_file_within 262144 held ≡ false
+  not_within : (bytes : List ℕ) (held : Option (List ℕ)) → held ≡ Some bytes → limit < length bytes → is_file_within limit held ≡ false
   not_within bytes None e long = cc
   not_within bytes (Some other) e long = let same : other ≡ bytes = cc in rw same (grind (arith, nat_tests))
 
-  within : (bytes : List ℕ) (held : Option (List ℕ)) → held ≡ Some bytes → length bytes ≤ 262144 → is_file_within 262144 held ≡ true
+  within : (bytes : List ℕ) (held : Option (List ℕ)) → held ≡ Some bytes → length bytes ≤ limit → is_file_within limit held ≡ true
   within bytes None e short = cc
   within bytes (Some other) e short = let same : other ≡ bytes = cc in rw same (grind (arith, nat_tests))
 
-  pub found_too_long : (holds now : Option (List Files)) → now ≡ holds → read ≡ TooLong → Reads now → NoneBefore holds i → IfSome holds (λ servers. IsFoundIn servers path at.TooLong)
+  pub found_too_long : (holds now : Option (List Files)) → now ≡ holds → read ≡ TooLong → Reads now → NoneBefore holds i → IfSome holds (λ servers. IsFoundIn limit servers path at.TooLong)
   found_too_long None now same is reads before = tt
   found_too_long (Some servers) now same is reads before =
-      let long : IsRead 262144 (held_at servers i path) TooLong = subst (λ r. IsRead 262144 (held_at servers i path) r) is (subst (λ h. IfSome h (λ all. IsRead 262144 (held_at all i path) read)) same reads) in
+      let long : IsRead limit (held_at servers i path) TooLong = subst (λ r. IsRead limit (held_at servers i path) r) is (subst (λ h. IfSome h (λ all. IsRead limit (held_at all i path) read)) same reads) in
       let here = found path long.0 servers i long.1 in
       (here.0, sym before ∙ here.3, ap is_some here.2, not_within long.0 (get here.0 path) here.2 long.2)
 
-  pub found_bytes : (bytes : List ℕ) (server : ℕ) (holds now : Option (List Files)) → server ≡ i → now ≡ holds → read ≡ Bytes bytes → Reads now → NoneBefore holds i → IfSome holds (λ servers. IsFoundIn servers path (at.At server bytes))
+  pub found_bytes : (bytes : List ℕ) (server : ℕ) (holds now : Option (List Files)) → server ≡ i → now ≡ holds → read ≡ Bytes bytes → Reads now → NoneBefore holds i → IfSome holds (λ servers. IsFoundIn limit servers path (at.At server bytes))
   found_bytes bytes server None now where_ same is reads before = tt
   found_bytes bytes server (Some servers) now where_ same is reads before =
-      let short : IsRead 262144 (held_at servers i path) (Bytes bytes) = subst (λ r. IsRead 262144 (held_at servers i path) r) is (subst (λ h. IfSome h (λ all. IsRead 262144 (held_at all i path) read)) same reads) in
+      let short : IsRead limit (held_at servers i path) (Bytes bytes) = subst (λ r. IsRead limit (held_at servers i path) r) is (subst (λ h. IfSome h (λ all. IsRead limit (held_at all i path) read)) same reads) in
       let here = found path bytes servers i short.0 in
       (here.0, sym before ∙ here.3, subst (λ k. slice_get servers k ≡ Some here.0) (sym where_) here.1, here.2, within bytes (get here.0 path) here.2 short.1)
 
   pub not_here : (holds now : Option (List Files)) (count : ℕ) → now ≡ holds → i < count → IfSome holds (λ servers. length servers ≡ count) → read ≡ Absent → Reads now → NoneBefore holds i → NoneBefore holds (i + 1)
   not_here None now count same more each is reads before = tt
   not_here (Some servers) now count same more each is reads before =
-      let none : IsRead 262144 (held_at servers i path) Absent = subst (λ r. IsRead 262144 (held_at servers i path) r) is (subst (λ h. IfSome h (λ all. IsRead 262144 (held_at all i path) read)) same reads) in
+      let none : IsRead limit (held_at servers i path) Absent = subst (λ r. IsRead limit (held_at servers i path) r) is (subst (λ h. IfSome h (λ all. IsRead limit (held_at all i path) read)) same reads) in
       rw add-one (sym (passed path servers i (omega (arith, each)) none) ∙ before)

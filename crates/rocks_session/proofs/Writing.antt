@@ -1,5 +1,5 @@
 -- What calls of a device that change it leave, one after another.
-use Rattle.std.proofs.Common.{◌≡◌, ◌≤◌, ◌+◌, ℕ, List, Option, None, Some, IfSome, length, map, [], ◌∷◌, ◌++◌, refl, sym, subst, ◌∙◌, arith, inl, inr}
+use Rattle.std.proofs.Common.{◌≡◌, ◌≤◌, ◌+◌, ◌-◌, ℕ, List, Option, None, Some, IfSome, length, map, [], ◌∷◌, ◌++◌, refl, sym, ap, subst, ◌∙◌, arith, inl, inr}
 use Rattle.std.specs.Prelude.{Result, Ok, Err, IsErrOf}
 use Rattle.rocks_text.specs.Files.{Files}
 use Rattle.rocks_outside.specs.Counts.{HasRisen, RisesByOne}
@@ -7,8 +7,11 @@ use Rattle.rocks_outside.specs.Device.{DeviceState, CountsFaults, RisesByOneWher
 use Rattle.rocks_outside.specs.Told.{WhereTold}
 use Rattle.rocks_outside.specs.declared.fault.DeviceError.{DeviceError}
 use Rattle.rocks_outside.specs.declared.fault.DeviceError.TheVariants as device_error
+use Rattle.tree_model.specs.Rock.{Rock}
+use Rattle.tree_model.specs.Tree.{file_count}
 use Rattle.rocks_session.specs.Faults.{IsDeviceFault, fault_of_device}
 use Rattle.rocks_session.specs.Staged.{file_of, put_all, Writes, Installs}
+use Rattle.rocks_session.specs.Step.{Outcome, ticks, ticks_for}
 use Rattle.rocks_session.specs.declared.fault.SessionFault.{SessionFault}
 use Rattle.rocks_session.specs.declared.fault.SessionFault.TheVariants as session_fault
 use Rattle.rocks_session.specs.declared.take.Staged.{Staged}
@@ -46,9 +49,15 @@ one_more_tick R None mid a b c count told ticked up = tt
 one_more_tick R (Some files) None a b c count told ticked up = absurd told
 one_more_tick R (Some files) (Some now) a b c count told ticked up = omega (arith, ticked, up)
 
-pub no_tick : (first : Option Files) (clock : ℕ) → IfSome first (λ _. clock ≡ clock + 0)
-no_tick None clock = tt
-no_tick (Some files) clock = omega arith
+no_ticks : (count : ℕ) → ticks_for (count - count) ≡ 0
+no_ticks count = let none : count - count ≡ 0 = omega arith in rw none refl
+
+-- a set that is kept takes no tick
+pub no_tick : (first : Option Files) (clock : ℕ) (set : List Rock) (outcome : Outcome) → outcome.set ≡ set → IfSome first (λ _. clock ≡ clock + ticks set outcome)
+no_tick None clock set outcome kept = tt
+no_tick (Some files) clock set outcome kept =
+    let none : ticks set outcome ≡ 0 = ap (λ (now : List Rock). ticks_for (file_count now - file_count set)) kept ∙ no_ticks (file_count set) in
+    omega (arith, none)
 
 -- the cause of a fault of the device
 caused : (e : DeviceError) (fault : SessionFault) (before now : ℕ) → fault ≡ fault_of_device e → (IsErrOf {T = Unit {0}} (Err e) device_error.Failed → HasRisen before now) → IsDeviceFault before now fault

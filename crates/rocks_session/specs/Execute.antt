@@ -7,18 +7,24 @@ use Rattle.tree_model.specs.Rock.{Rock}
 use Rattle.tree_model.specs.Tree.{tree_of}
 use Rattle.rocks_session.specs.Faults.{HasCause}
 use Rattle.rocks_session.specs.Opened.{IsTreeOf, IsOpenAs}
-use Rattle.rocks_session.specs.Step.{Outcome, step, IsOutcomeOf, ticks}
+use Rattle.rocks_session.specs.Step.{Outcome, IsStep, IsOutcomeOf, ticks}
 use Rattle.rocks_session.specs.declared.fault.SessionFault.{SessionFault}
 use Rattle.rocks_session.specs.declared.fault.SessionFault.TheVariants.{ShelfFault}
 use Rattle.rocks_session.specs.declared.reply.Reply.{Reply}
 use Rattle.rocks_session.specs.declared.version.RockKey.{RockKey}
 use Rattle.rocks_session.specs.declared.words.Command.{Command}
+use Rattle.rocks_session.specs.declared.words.Command.TheVariants.{Add, Eval}
 
--- An outcome of the command over a set: the model's where the shelf tells what the servers hold, and one that the
--- command can have whatever they hold.
+-- An outcome of the command over a set: the model's only one where the shelf tells what the servers hold, and one that
+-- the command can have whatever they hold.
 pub record IsModels (command : Command) (set : List Rock) (servers : Option (List Files)) (outcome : Outcome) : Type 0 where
-  pub told : IfSome servers (λ held. outcome ≡ step held set command)
+  pub told : IfSome servers (λ held. IsStep held set command outcome)
+  pub only : IfSome servers (λ held. (other : Outcome) → IsStep held set command other → other ≡ outcome)
   pub own : IsOutcomeOf command set outcome
+
+-- the outcome that a reply tells, where the set is kept
+abbrev pub answered : List Rock → Reply → Outcome
+answered set reply = record { set = set; refusal = reply.refusal; text = reply.text }
 
 -- the reply, the tree and the device after a command that was carried out, or refused
 pub record CarriesOut (command : Command) (set : List Rock) (servers : Option (List Files)) (reply : Reply) (keys : List RockKey) (before now : DeviceState) : Type 0 where
@@ -28,7 +34,7 @@ pub record CarriesOut (command : Command) (set : List Rock) (servers : Option (L
   pub text : reply.text ≡ outcome.text
   pub tree : IsTreeOf outcome.set keys
   pub files : IfSome now.files (λ files. files ≡ tree_of outcome.set)
-  -- each new file is written once, and all are synced once
+  -- each new file is written once, and all are synced once, if there are any
   pub clock : IfSome before.files (λ _. now.clock ≡ before.clock + ticks set outcome)
 
 -- nothing has changed but the counts of looks and faults
@@ -48,6 +54,11 @@ pub record Keeps (result : Result Reply SessionFault) (before now : DeviceState)
   pub shelf_faults : shelf_before.faults ≤ shelf_now.faults
   pub cause : IfErr result (HasCause before.faults now.faults shelf_before.faults shelf_now.faults)
 
+-- a command that keeps tree and device, whatever it answers
+abbrev pub IsEval : Command → Type 0
+IsEval (Add key) = ⊥
+IsEval (Eval path) = Unit {0}
+
 -- a command over a tree that was opened, a device and a shelf
 pub record Executes (command : Command) (result : Result Reply SessionFault) (keys_before keys_now : List RockKey) (before now : DeviceState) (shelf_before shelf_now : ShelfState) : Type 0 where
   -- from whatever set the tree stands for
@@ -57,4 +68,6 @@ pub record Executes (command : Command) (result : Result Reply SessionFault) (ke
   pub refused : IfOk result (λ reply. IsSome reply.refusal → IsLeft keys_before keys_now before now)
   -- nor does a command that a shelf's fault broke off
   pub broken_off : IsErrOf result ShelfFault → IsLeft keys_before keys_now before now
+  -- `eval` changes nothing, whatever comes of it
+  pub untouched : IsEval command → IsLeft keys_before keys_now before now
   pub keeps : Keeps result before now shelf_before shelf_now

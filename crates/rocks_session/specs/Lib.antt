@@ -4,10 +4,12 @@ pub use Rattle.rocks_outside.specs.Shelf
 pub use Rattle.rocks_outside.specs.Told
 pub use Rattle.tree_model.specs.Rock
 pub use Rattle.tree_model.specs.Tree
+pub mod Evaluated
 pub mod Execute
 pub mod Faults
 pub mod Opened
 pub mod Run
+pub mod Search
 pub mod Staged
 pub mod Step
 pub mod Unpacked

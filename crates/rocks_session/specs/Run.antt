@@ -7,7 +7,7 @@ use Rattle.tree_model.specs.Rock.{Rock}
 use Rattle.tree_model.specs.Tree.{tree_of}
 use Rattle.rocks_session.specs.Execute.{IsModels}
 use Rattle.rocks_session.specs.Opened.{Opens}
-use Rattle.rocks_session.specs.Step.{Outcome, step, ticks}
+use Rattle.rocks_session.specs.Step.{Outcome, IsStep, ticks}
 use Rattle.rocks_session.specs.declared.reply.Refusal.{Refusal}
 use Rattle.rocks_session.specs.declared.status.Status.{Status}
 use Rattle.rocks_session.specs.declared.status.Status.TheVariants.{Done, Refused, BadWords, NoMemory, DeviceFault, ShelfFault, Damaged}
@@ -59,7 +59,8 @@ code_of DeviceFault = 4
 code_of ShelfFault = 5
 code_of (Damaged path) = 7
 
--- No more was said than a first part of the reply that the words ask for.
+-- No more was said than a first part of the model's reply to the words.
 abbrev pub SaysAtMost : Result Command WordsFault → Option (List Files) → (before now : DeviceState) → Type 0
 SaysAtMost read servers before now = (command : Command) (set : List Rock) → read ≡ Ok command → Opens before.files set
-    → IfSome servers (λ held. WhereTold (λ old new. (n : ℕ) × (new ≡ old ++ take n (step held set command).text)) before.said now.said)
+    → IfSome servers (λ held. (outcome : Outcome) → IsStep held set command outcome
+    → WhereTold (λ old new. (n : ℕ) × (new ≡ old ++ take n outcome.text)) before.said now.said)

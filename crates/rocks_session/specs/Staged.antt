@@ -15,13 +15,11 @@ use Rattle.rocks_outside.specs.declared.fault.DeviceError.TheVariants.{Failed}
 use Rattle.tree_paths.specs.Places.{plain_path}
 use Rattle.tree_model.specs.Tree.{files_of, rockspec_name, rockspec_path, HaveOwnPaths}
 use Rattle.rocks_session.specs.Faults.{IsShelfFault, IsDeviceFault}
-use Rattle.rocks_session.specs.Unpacked.{earliest_with, offering, is_whole_taken, is_file_within, is_taken, module_at, item_at, unpacked, unpacked_folder, unpacked_rockspec}
+use Rattle.rocks_session.specs.Unpacked.{offering, is_whole_taken, is_file_within, is_taken, module_at, item_at, unpacked, unpacked_folder, unpacked_rockspec}
 use Rattle.rocks_session.specs.declared.fault.SessionFault.{SessionFault}
 use Rattle.rocks_session.specs.declared.take.TheConstants.{LONGEST_ROCKSPEC, LONGEST_FILE}
 use Rattle.rocks_session.specs.declared.take.Staged.{Staged}
 use Rattle.rocks_session.specs.declared.take.Folder.{Folder}
-use Rattle.rocks_session.specs.declared.take.Found.{Found}
-use Rattle.rocks_session.specs.declared.take.Found.TheVariants.{Nowhere, TooLong, At}
 use Rattle.rocks_session.specs.declared.take.Offer.{Offer}
 use Rattle.rocks_session.specs.declared.take.Offer.TheVariants.{Absent, NotServed, Rock as Ready}
 use Rattle.rocks_session.specs.declared.version.RockKey.{RockKey}
@@ -34,20 +32,6 @@ file_of staged = (staged.at, staged.bytes)
 abbrev pub put_all : List (List ℕ × List ℕ) → Files → Files
 put_all [] files = files
 put_all (file ∷ more) files = put_all more (insert files file.0 file.1)
-
--- where the rockspec was found
-abbrev pub IsFoundIn : List Files → (path : List ℕ) → Found → Type 0
-IsFoundIn servers path Nowhere = earliest_with path servers ≡ None
-IsFoundIn servers path TooLong =
-    (files : Files) × (earliest_with path servers ≡ Some files) × (contains_key files path ≡ true) × (is_file_within LONGEST_ROCKSPEC (get files path) ≡ false)
-IsFoundIn servers path (At server bytes) =
-    (files : Files) × (earliest_with path servers ≡ Some files) × (slice_get servers server ≡ Some files)
-    × (get files path ≡ Some bytes) × (is_file_within LONGEST_ROCKSPEC (get files path) ≡ true)
-
-abbrev pub IsServer : ℕ → Found → Type 0
-IsServer count Nowhere = Unit {0}
-IsServer count TooLong = Unit {0}
-IsServer count (At server bytes) = server < count
 
 -- a module of the folder, or None where it can't be taken
 abbrev pub IsModule : (path : List ℕ) → Option (List ℕ) → Option Staged → Type 0

@@ -1,15 +1,23 @@
 -- What a command does to a set of rocks, and what it replies. (This project's own.)
-use Rattle.std.specs.Prelude.{ℕ, ◌≡◌, ◌≢◌, ◌+◌, ◌-◌, ◌⊎◌, List, ◌∷◌, ◌++◌, codes, is_some, if◌then◌else◌, Option, None, Some}
+use Rattle.std.specs.Prelude.{ℕ, ◌≡◌, ◌≢◌, ◌<◌, ◌≤◌, ◌==◌, ◌+◌, ◌-◌, ◌⊎◌, List, ◌∷◌, ◌++◌, length, codes, if◌then◌else◌, Option, None, Some, Result, Ok, Err}
 use Rattle.std.specs.Str.{bytes_eq}
+use Rattle.lua_lexer.specs.declared.fault.LexFault.TheVariants.{TooLong}
+use Rattle.lua_print.specs.Printed.{globals_text}
+use Rattle.lua_text.specs.Outcomes.{HasOutcome}
+use Rattle.lua_text.specs.Texts.{fault_text}
+use Rattle.lua_text.specs.declared.fault.EvalFailed.{EvalFailed}
+use Rattle.lua_text.specs.declared.fault.EvalFailed.TheVariants.{Lex}
+use Rattle.lua_value.specs.Pairs.{Pairs}
 use Rattle.rocks_text.specs.Files.{Files}
 use Rattle.tree_model.specs.Rock.{Rock}
 use Rattle.tree_model.specs.Tree.{file_count}
-use Rattle.rocks_session.specs.Unpacked.{offering, is_whole_taken, unpacked}
+use Rattle.rocks_session.specs.Unpacked.{earliest_at, offering, is_whole_taken, unpacked}
+use Rattle.rocks_session.specs.declared.eval.TheConstants.{LONGEST_TEXT}
 use Rattle.rocks_session.specs.declared.version.RockKey.{RockKey}
 use Rattle.rocks_session.specs.declared.words.Command.{Command}
-use Rattle.rocks_session.specs.declared.words.Command.TheVariants.{Add}
+use Rattle.rocks_session.specs.declared.words.Command.TheVariants.{Add, Eval}
 use Rattle.rocks_session.specs.declared.reply.Refusal.{Refusal}
-use Rattle.rocks_session.specs.declared.reply.Refusal.TheVariants.{Provided, NoRock, NotServed}
+use Rattle.rocks_session.specs.declared.reply.Refusal.TheVariants.{Provided, NoRock, NotServed, NoFile, Lua}
 
 abbrev pub key_of : Rock → RockKey
 key_of rock = record { name = rock.name; version = rock.version }
@@ -23,6 +31,8 @@ abbrev pub refusal_text : Refusal → List ℕ
 refusal_text Provided = codes "refused Provided\n"
 refusal_text (NoRock key) = codes "refused NoRock " ++ key_text key ++ codes "\n"
 refusal_text (NotServed key) = codes "refused NotServed " ++ key_text key ++ codes "\n"
+refusal_text (NoFile path) = codes "refused NoFile " ++ path ++ codes "\n"
+refusal_text (Lua fault) = codes "refused Lua " ++ fault_text fault ++ codes "\n"
 
 -- the lines of the reply to a command that added a rock
 abbrev pub added_text : RockKey → List ℕ
@@ -50,23 +60,52 @@ added set key (Some files) =
     then joined_by set (unpacked files key.name key.version)
     else refused set (NotServed key)
 
--- one command over what the servers hold
-abbrev pub step : List Files → List Rock → Command → Outcome
-step servers set (Add key) =
+-- the answer to `add`
+abbrev pub adds : List Files → List Rock → RockKey → Outcome
+adds servers set key =
     if bytes_eq key.name (codes "lua") then refused set Provided else added set key (offering servers key.name key.version)
+
+-- the set is kept, and what a text comes to is told
+abbrev pub told : List Rock → Result Pairs EvalFailed → Outcome
+told set (Ok globals) = record { set = set; refusal = None; text = globals_text globals ++ codes "ok\n" }
+told set (Err fault) = refused set (Lua fault)
+
+-- the refusal of a text that is longer than the limit
+abbrev pub too_long : Refusal
+too_long = Lua (Lex (TooLong (LONGEST_TEXT + 1)))
+
+-- The answer to `eval`, by the bytes at the path on the earliest server that has it. The set is kept.
+abbrev pub Evaluates : List Rock → (path : List ℕ) → Option (List ℕ) → Outcome → Type 0
+Evaluates set path None outcome = outcome ≡ refused set (NoFile path)
+Evaluates set path (Some text) outcome =
+    ((LONGEST_TEXT < length text) × (outcome ≡ refused set too_long))
+    ⊎ ((length text ≤ LONGEST_TEXT) × ((read : Result Pairs EvalFailed) × HasOutcome text read × (outcome ≡ told set read)))
+
+-- an outcome of one command over what the servers hold
+abbrev pub IsStep : List Files → List Rock → Command → Outcome → Type 0
+IsStep servers set (Add key) outcome = outcome ≡ adds servers set key
+IsStep servers set (Eval path) outcome = Evaluates set path (earliest_at path servers) outcome
 
 -- a refusal of `add` has the command's own values, and `Provided` comes for `lua` alone
 abbrev pub IsRefusalOf : RockKey → Refusal → Type 0
 IsRefusalOf key Provided = key.name ≡ codes "lua"
 IsRefusalOf key (NoRock kept) = (key.name ≢ codes "lua") × (kept ≡ key)
 IsRefusalOf key (NotServed kept) = (key.name ≢ codes "lua") × (kept ≡ key)
+IsRefusalOf key (NoFile path) = ⊥
+IsRefusalOf key (Lua fault) = ⊥
 
 -- an outcome that the command can have, whatever the servers hold
 abbrev pub IsOutcomeOf : Command → List Rock → Outcome → Type 0
 IsOutcomeOf (Add key) set outcome =
     ((rock : Rock) × (key.name ≢ codes "lua") × (key_of rock ≡ key) × (outcome ≡ joined_by set rock))
     ⊎ ((refusal : Refusal) × IsRefusalOf key refusal × (outcome ≡ refused set refusal))
+IsOutcomeOf (Eval path) set outcome =
+    (outcome ≡ refused set (NoFile path)) ⊎ ((read : Result Pairs EvalFailed) × (outcome ≡ told set read))
 
--- how often a device's clock rises for an outcome: once for each file that is new, and once to make all of them durable
+-- how often a device's clock rises for files that are new: once for each, and once to make all of them durable
+abbrev pub ticks_for : ℕ → ℕ
+ticks_for count = if count == 0 then 0 else count + 1
+
+-- the same for an outcome
 abbrev pub ticks : List Rock → Outcome → ℕ
-ticks before outcome = if is_some outcome.refusal then 0 else file_count outcome.set - file_count before + 1
+ticks before outcome = ticks_for (file_count outcome.set - file_count before)

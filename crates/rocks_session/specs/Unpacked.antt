@@ -1,5 +1,5 @@
 -- The rock that an unpacked rock's folder on a server holds (LuaRocks: the layout of a rock).
-use Rattle.std.specs.Prelude.{ℕ, Bool, false, ◌&&◌, nat_le, List, [], ◌∷◌, ◌++◌, length, drop, codes, if◌then◌else◌, Option, None, Some, unwrap_or}
+use Rattle.std.specs.Prelude.{ℕ, Bool, false, ◌&&◌, nat_le, List, [], ◌∷◌, ◌++◌, length, drop, codes, if◌then◌else◌, Option, None, Some, option_and_then, unwrap_or}
 use Rattle.std.specs.List.{list_all, filter_map, starts_with}
 use Rattle.std.specs.Option.{option_map}
 use Rattle.std.specs.Bool.{nat_eq}
@@ -30,6 +30,10 @@ unpacked_rockspec name version = unpacked_path name version (rockspec_name name 
 abbrev pub earliest_with : (path : List ℕ) → List Files → Option Files
 earliest_with path [] = None
 earliest_with path (files ∷ servers) = if contains_key files path then Some files else earliest_with path servers
+
+-- the bytes there
+abbrev pub earliest_at : (path : List ℕ) → List Files → Option (List ℕ)
+earliest_at path servers = option_and_then (λ files. get files path) (earliest_with path servers)
 
 -- the earliest server that holds the rockspec of the folder
 abbrev pub offering : List Files → (name version : List ℕ) → Option Files

@@ -2,10 +2,10 @@
 use Rattle.std.specs.Prelude.{ℕ, ◌≡◌, Bool, ◌||◌, not, nat_lt, List, [], ◌∷◌, length, codes, if◌then◌else◌, Result, Ok, Err}
 use Rattle.std.specs.List.{list_any}
 use Rattle.std.specs.Str.{bytes_eq}
-use Rattle.rocks_text.specs.Texts.{is_name, lowered}
+use Rattle.rocks_text.specs.Texts.{is_file_path, is_name, lowered}
 use Rattle.rocks_session.specs.Version.{is_rock_version}
 use Rattle.rocks_session.specs.declared.words.Command.{Command}
-use Rattle.rocks_session.specs.declared.words.Command.TheVariants.{Add}
+use Rattle.rocks_session.specs.declared.words.Command.TheVariants.{Add, Eval}
 use Rattle.rocks_session.specs.declared.fault.WordsFault.{WordsFault}
 use Rattle.rocks_session.specs.declared.fault.WordsFault.TheVariants.{Options, BadWords, NoMemory}
 
@@ -59,11 +59,23 @@ abbrev pub add_name : List (List ℕ) → Result Command WordsFault
 add_name [] = Err (BadWords 1)
 add_name (name ∷ words) = if is_name (lowered name) then add_version (lowered name) words else Err (BadWords 1)
 
--- `add NAME VERSION`. A fault has the number of the first word that fits no command, which is the count of the
+-- `PATH`, and no word behind it
+abbrev pub eval_path : List (List ℕ) → Result Command WordsFault
+eval_path [] = Err (BadWords 1)
+eval_path (path ∷ words) = if not (is_file_path path) then Err (BadWords 1) else only words
+  where
+    only : List (List ℕ) → Result Command WordsFault
+    only [] = Ok (Eval path)
+    only (word ∷ words) = Err (BadWords 2)
+
+-- `add NAME VERSION` or `eval PATH`. A fault has the number of the first word that fits no command, which is the count of the
 -- words where they end too early.
 abbrev pub command_in : List (List ℕ) → Result Command WordsFault
 command_in [] = Err (BadWords 0)
-command_in (word ∷ words) = if bytes_eq word (codes "add") then add_name words else Err (BadWords 0)
+command_in (word ∷ words) =
+    if bytes_eq word (codes "add")
+    then add_name words
+    else (if bytes_eq word (codes "eval") then eval_path words else Err (BadWords 0))
 
 abbrev pub command_after : Result Rooted WordsFault → Result Command WordsFault
 command_after (Ok rooted) = command_in rooted.command

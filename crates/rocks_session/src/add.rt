@@ -1,17 +1,16 @@
 // The command `add NAME VERSION`.
-ghost use Rattle.std.specs.Prelude.{◌≡◌, ◌≤◌, List, map, Some, IfOk, IfErr, OnOk, IsErrOf};
+ghost use Rattle.std.specs.Prelude.{◌≡◌, ◌≤◌, List, map, IfOk, IfErr, OnOk, IsErrOf};
 ghost use Rattle.rocks_outside.specs.Device.{CountsFaults};
 ghost use Rattle.tree_model.specs.Rock.{Rock};
 ghost use Rattle.rocks_session.specs.Execute.{Executes};
 ghost use Rattle.rocks_session.specs.Opened.{IsOpenAs};
 ghost use Rattle.rocks_session.specs.Staged.{Installs, Writes};
-ghost use Rattle.rocks_session.specs.Step.{refusal_text};
 
-use crate::reply::{added_text, refusal_text};
+use crate::reply::{added_text, refused};
 use crate::take::{Offer, Staged, take};
 use crate::{Command, Refusal, Reply, RockKey, SessionFault, Tree};
 use rocks_outside::{Device, DeviceError, Shelf};
-use std::alloc::{AllocError, Global};
+use std::alloc::Global;
 
 /// Takes the rock of an unpacked rock's folder into the tree.
 pub(crate) fn add<V: Device, F: Shelf>(
@@ -50,17 +49,6 @@ pub(crate) fn add<V: Device, F: Shelf>(
             })
         }
     }
-}
-
-fn refused(alloc: Global, refusal: Refusal) -> Result<Reply, AllocError>
-    ensures refusal { IfOk result (λ reply. reply.refusal ≡ Some refusal) }
-    ensures text { IfOk result (λ reply. reply.text ≡ refusal_text refusal) }
-{
-    let text = refusal_text(alloc, &refusal)?;
-    Ok(Reply {
-        refusal: Some(refusal),
-        text,
-    })
 }
 
 // Adds a rock to the tree, and writes its files. What takes our own memory comes first.

@@ -4,6 +4,7 @@ ghost use Rattle.rocks_session.specs.Execute.{Executes};
 ghost use Rattle.rocks_session.specs.Opened.{IsOpenAs};
 
 use crate::add::add;
+use crate::eval::eval;
 use crate::{Command, Reply, SessionFault, Tree};
 use rocks_outside::{Device, Shelf};
 use std::alloc::Global;
@@ -11,7 +12,7 @@ use std::alloc::Global;
 /// Carries one command out on a tree that was opened, over the servers of a shelf. All files of a rock are read
 /// before the first one is written; then they are written, and synced.
 ///
-/// A refusal changes no file and not the tree. `DeviceFault` and `ShelfFault` come only where the device or the shelf
+/// A refusal changes no file and not the tree, and neither does `eval`, whatever it answers. `DeviceFault` and `ShelfFault` come only where the device or the shelf
 /// failed in the call, and `NoMemory` where memory runs out. After `ShelfFault` all is as before; after the others the
 /// device is opened again.
 pub fn execute<V: Device, F: Shelf>(
@@ -27,5 +28,6 @@ pub fn execute<V: Device, F: Shelf>(
 {
     match command {
         Command::Add(key) => add(alloc, tree, device, shelf, key),
+        Command::Eval(path) => eval(alloc, shelf, path),
     }
 }

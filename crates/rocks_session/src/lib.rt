@@ -2,11 +2,13 @@
 #![tactic(auto)]
 
 mod add;
+mod eval;
 mod execution;
 mod fault;
 pub mod laws;
 mod paths;
 mod reply;
+mod search;
 mod session;
 mod status;
 mod take;
@@ -16,6 +18,7 @@ mod words;
 
 pub use execution::execute;
 pub use fault::{OpenFault, SessionFault, WordsFault};
+pub use lua_text::EvalFailed;
 pub use reply::{Refusal, Reply};
 pub use session::run;
 pub use status::Status;

@@ -1,8 +1,10 @@
-ghost use Rattle.std.specs.Prelude.{◌≡◌, ◌++◌, codes, IfOk};
+ghost use Rattle.std.specs.Prelude.{◌≡◌, ◌++◌, codes, IfOk, Some};
+ghost use Rattle.lua_text.specs.Texts.{fault_text};
 ghost use Rattle.rocks_session.specs.Step.{refusal_text, added_text, key_text};
 
-use crate::RockKey;
+use crate::{EvalFailed, RockKey};
 use rocks_bytes::Bytes;
+use rocks_text::FilePath;
 use std::alloc::{AllocError, Global};
 
 /// Why a command was refused. A refused command changes no file.
@@ -15,6 +17,10 @@ pub enum Refusal {
     /// The folder has a file that can't be taken yet: one that is neither the rockspec nor below `lua/`, or one that
     /// is too long.
     NotServed { key: RockKey },
+    /// No server has the file.
+    NoFile { path: FilePath },
+    /// The file's text has no globals.
+    Lua { fault: EvalFailed },
 }
 
 /// The answer to one command.
@@ -35,14 +41,28 @@ pub(crate) fn added_text(alloc: Global, key: &RockKey) -> Result<Bytes, AllocErr
     Ok(Bytes::from(format!(in alloc; "+ {name} {version}\nok\n")?.into_bytes()))
 }
 
-/// The reply of a refused command.
-pub(crate) fn refusal_text(alloc: Global, refusal: &Refusal) -> Result<Bytes, AllocError>
+/// The answer of a refused command.
+pub(crate) fn refused(alloc: Global, refusal: Refusal) -> Result<Reply, AllocError>
+    ensures refusal { IfOk result (λ reply. reply.refusal ≡ Some refusal) }
+    ensures text { IfOk result (λ reply. reply.text ≡ refusal_text refusal) }
+{
+    let text = refusal_text(alloc, &refusal)?;
+    Ok(Reply {
+        refusal: Some(refusal),
+        text,
+    })
+}
+
+// The reply of a refused command.
+fn refusal_text(alloc: Global, refusal: &Refusal) -> Result<Bytes, AllocError>
     ensures { IfOk result (λ text. text ≡ refusal_text refusal.now) }
 {
     match refusal {
         Refusal::Provided => Ok(Bytes::from(b"refused Provided\n".to_vec(alloc)?)),
         Refusal::NoRock { key } => refused_key(alloc, "NoRock", key),
         Refusal::NotServed { key } => refused_key(alloc, "NotServed", key),
+        Refusal::NoFile { path } => refused_path(alloc, path),
+        Refusal::Lua { fault } => refused_text(alloc, fault),
     }
 }
 
@@ -53,4 +73,19 @@ fn refused_key(alloc: Global, code: &str, key: &RockKey) -> Result<Bytes, AllocE
     let name = key.name.as_str();
     let version = key.version.as_str();
     Ok(Bytes::from(format!(in alloc; "refused {code} {name} {version}\n")?.into_bytes()))
+}
+
+fn refused_path(alloc: Global, path: &FilePath) -> Result<Bytes, AllocError>
+    ensures { IfOk result (λ text. text ≡ codes "refused NoFile " ++ path.now ++ codes "\n") }
+{
+    let path = path.as_str();
+    Ok(Bytes::from(format!(in alloc; "refused NoFile {path}\n")?.into_bytes()))
+}
+
+fn refused_text(alloc: Global, fault: &EvalFailed) -> Result<Bytes, AllocError>
+    ensures { IfOk result (λ text. text
+        ≡ codes "refused Lua " ++ fault_text fault.now ++ codes "\n") }
+{
+    let fault = fault.text(alloc)?;
+    Ok(Bytes::from(format!(in alloc; "refused Lua {fault}\n")?.into_bytes()))
 }

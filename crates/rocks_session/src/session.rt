@@ -8,7 +8,7 @@ ghost use Rattle.rocks_session.specs.Words.{command_of};
 
 use crate::{Command, OpenFault, SessionFault, Status, WordsFault, execute, open, read_words};
 use rocks_outside::{Device, DeviceError, Shelf, Source};
-use rocks_text::TreePath;
+use rocks_text::{FilePath, TreePath};
 use std::alloc::Global;
 
 /// A whole run: reads the words, opens the tree, carries the command out and says its reply with one call of `say`.
@@ -32,6 +32,9 @@ pub fn run<V: Device, F: Shelf, I: Source>(
         (V.state device.old) (V.state device.new)) }
     ensures opened { HasRun result → (set : List Rock) × Opens (V.state device.old).files set }
     ensures refused { result ≡ Status.Refused
+        → (V.state device.new).files ≡ (V.state device.old).files }
+    ensures evaluated { (path : FilePath)
+        → command_of (map string_bytes words.now) ≡ Ok (Command.Eval path)
         → (V.state device.new).files ≡ (V.state device.old).files }
 
     // Words that say a command, a tree that opens and objects that don't fail are enough, but for memory.

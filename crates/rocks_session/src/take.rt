@@ -6,13 +6,14 @@ ghost use Rattle.std.specs.Bool.{nat_eq};
 ghost use Rattle.rocks_text.specs.Paths.{joined};
 ghost use Rattle.rocks_text.specs.Texts.{is_file_path};
 ghost use Rattle.rocks_outside.specs.Shelf.{held_at};
-ghost use Rattle.rocks_session.specs.Staged.{Asks, IsSound, IsOffer, FolderOffers, IsFoundIn};
-ghost use Rattle.rocks_session.specs.Staged.{IsServer, IsModule, IsFolderOfKey};
+ghost use Rattle.rocks_session.specs.Staged.{Asks, IsSound, IsOffer, FolderOffers};
+ghost use Rattle.rocks_session.specs.Staged.{IsModule, IsFolderOfKey};
 ghost use Rattle.rocks_session.specs.Staged.{AreTaken, IsNotTaken};
 
 use crate::paths::{
     module_place, rockspec_name, rockspec_place, unpacked_folder, unpacked_rockspec,
 };
+use crate::search::{Found, find};
 use crate::{RockKey, SessionFault};
 use rocks_bytes::Bytes;
 use rocks_outside::{Shelf, ShelfRead};
@@ -43,14 +44,6 @@ pub(crate) enum Offer {
     Rock(Vec<Staged>),
 }
 
-/// Where the rockspec was found.
-#[derive(Debug, Drop)]
-enum Found {
-    Nowhere,
-    TooLong,
-    At(u32, Bytes),
-}
-
 /// An unpacked rock's folder: its server, its path there, and the name of its rockspec.
 #[derive(Debug, Drop)]
 struct Folder {
@@ -72,29 +65,11 @@ pub(crate) fn take<F: Shelf>(
     ensures asks { Asks result (F.state shelf.old) (F.state shelf.new) }
 {
     let rockspec = unpacked_rockspec(alloc, key)?;
-    match find(alloc, shelf, &rockspec)? {
+    match find(alloc, shelf, &rockspec, LONGEST_ROCKSPEC)? {
         Found::Nowhere => Ok(Offer::Absent),
         Found::TooLong => Ok(Offer::NotServed),
         Found::At(server, bytes) => take_folder(alloc, shelf, server, key, bytes),
     }
-}
-
-// The rockspec on the earliest server that has it.
-fn find<F: Shelf>(alloc: Global, shelf: &mut F, path: &FilePath) -> Result<Found, SessionFault>
-    ensures found { IfOk result (λ found. IfSome (F.state shelf.old).holds
-        (λ servers. IsFoundIn servers path.now found)) }
-    ensures server { IfOk result (IsServer (F.state shelf.old).servers) }
-    ensures asks { Asks result (F.state shelf.old) (F.state shelf.new) }
-{
-    let servers = shelf.servers();
-    for server in 0..servers {
-        match shelf.read(alloc, server, path, LONGEST_ROCKSPEC)? {
-            ShelfRead::Absent => {}
-            ShelfRead::TooLong => return Ok(Found::TooLong),
-            ShelfRead::Bytes(bytes) => return Ok(Found::At(server, bytes)),
-        }
-    }
-    Ok(Found::Nowhere)
 }
 
 // The files of the folder on that server, whose rockspec was read.

@@ -2,13 +2,13 @@ ghost use Rattle.std.specs.Prelude.{◌≡◌, ◌+◌, ◌*◌, ◌||◌, lengt
 ghost use Rattle.std.specs.Prelude.{string_bytes};
 ghost use Rattle.std.specs.List.{list_any};
 ghost use Rattle.rocks_session.specs.Words.{command_of, rooted, from_folders, after_from};
-ghost use Rattle.rocks_session.specs.Words.{command_in, add_name, add_version};
+ghost use Rattle.rocks_session.specs.Words.{command_in, add_name, add_version, eval_path};
 ghost use Rattle.rocks_session.specs.Words.{is_tree_flag, is_from_flag};
 ghost use Rattle.rocks_session.specs.Words.{IsFaultOf, RootsAre};
 
 use crate::{RockKey, Version, WordsFault};
 use rocks_bytes::Text;
-use rocks_text::{Name, TextFault};
+use rocks_text::{FilePath, Name, TextFault};
 use sqlite_items::Items;
 use std::alloc::{AllocError, Global};
 
@@ -20,6 +20,8 @@ const MOST_SERVERS: usize = 8;
 pub enum Command {
     /// Take the rock of an unpacked rock's folder into the tree.
     Add(RockKey),
+    /// Tell the globals of the Lua text at a path of the earliest server that has it.
+    Eval(FilePath),
 }
 
 /// Where a command works: the tree's folder and the servers' folders, in their order.
@@ -36,6 +38,7 @@ impl Command {
     {
         match self {
             Command::Add(key) => Ok(Command::Add(key.copy(alloc)?)),
+            Command::Eval(path) => Ok(Command::Eval(path.copy(alloc)?)),
         }
     }
 }
@@ -57,7 +60,8 @@ impl RootWords {
 }
 
 /// The command that the words of a command line give: `--tree DIR`, then `--from DIR` at most 8 times, then
-/// `add NAME VERSION`. NAME is put into lower case, and VERSION is a rock version.
+/// `add NAME VERSION` or `eval PATH`. NAME is put into lower case, VERSION is a rock version, and PATH a path on a
+/// server.
 ///
 /// `Options` and `BadWords` exactly where the words are faulty so, and `NoMemory` where memory runs out.
 pub fn read_words(alloc: Global, words: &[String]) -> Result<Command, WordsFault>
@@ -169,6 +173,7 @@ fn command_in(alloc: Global, words: &[String]) -> Result<Command, WordsFault>
 {
     match words {
         [verb, rest @ ..] if verb.as_str() == "add" => add_name(alloc, rest),
+        [verb, rest @ ..] if verb.as_str() == "eval" => eval_path(alloc, rest),
         _ => Err(WordsFault::BadWords { which: 0 }),
     }
 }
@@ -203,4 +208,23 @@ fn add_version(alloc: Global, name: Name, words: &[String]) -> Result<Command, W
         return Err(WordsFault::BadWords { which: 3 });
     }
     Ok(Command::Add(RockKey { name, version }))
+}
+
+fn eval_path(alloc: Global, words: &[String]) -> Result<Command, WordsFault>
+    ensures { MatchResult result
+        (λ command. eval_path (map string_bytes words.now) ≡ Ok command)
+        (IsFaultOf (eval_path (map string_bytes words.now))) }
+{
+    let [path, rest @ ..] = words else {
+        return Err(WordsFault::BadWords { which: 1 });
+    };
+    let path = match FilePath::from_text(alloc, path.as_str()) {
+        Ok(path) => path,
+        Err(TextFault::NoMemory) => return Err(WordsFault::NoMemory),
+        Err(_) => return Err(WordsFault::BadWords { which: 1 }),
+    };
+    if !rest.is_empty() {
+        return Err(WordsFault::BadWords { which: 2 });
+    }
+    Ok(Command::Eval(path))
 }

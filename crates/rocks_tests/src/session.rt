@@ -1,5 +1,6 @@
 //! Whole runs over objects in memory.
 
+mod evaluation;
 mod failing;
 
 use failing::{FailingDevice, FailingShelf};
@@ -135,7 +136,7 @@ fn a_refused_command_changes_no_file(rt: HostRuntime) {
     is_refused(&rt, &mut shelf, ADD, "refused NotServed hello 1.0-1\n");
 }
 
-const FAULTY: [&str; 13] = [
+const FAULTY: [&str; 16] = [
     "",
     "add hello 1.0-1",
     "--tree T",
@@ -150,6 +151,9 @@ const FAULTY: [&str; 13] = [
 add hello 1.0-1",
     "--tree T add --tree x",
     "--tree T remove hello",
+    "--tree T eval",
+    "--tree T eval a/../b",
+    "--tree T eval a b",
 ];
 
 #[test]
@@ -185,10 +189,16 @@ fn words_name_the_tree_and_the_servers(rt: HostRuntime) {
 
 #[test]
 fn words_say_the_command(rt: HostRuntime) {
-    let Command::Add(key) = command(&rt, &words(&rt, TWO_SERVERS));
-    let copied = key.copy(rt.alloc()).expect(&rt, "memory");
-    assert!(rt; copied.name.as_str() == "a_b");
-    assert!(rt; copied.version.as_str() == "1.0.rc-2");
+    let command = command(&rt, &words(&rt, TWO_SERVERS));
+    assert!(rt; adds(&rt, &command, "a_b", "1.0.rc-2"));
+}
+
+fn adds(rt: &(impl Abort + AllocGlobal), command: &Command, name: &str, version: &str) -> bool {
+    let Command::Add(key) = command else {
+        return false;
+    };
+    let copied = key.copy(rt.alloc()).expect(rt, "memory");
+    copied.name.as_str() == name && copied.version.as_str() == version
 }
 
 fn calls(rt: &(impl Abort + AllocGlobal), line: &str, calls: &[&str]) {
@@ -215,6 +225,7 @@ fn what_is_written_is_synced_and_then_said(rt: HostRuntime) {
     );
     calls(&rt, "--tree T --from S add hello 2.0-1", &["list", "say"]);
     calls(&rt, "--tree T --from S add lua 5.4-1", &["list", "say"]);
+    calls(&rt, "--tree T --from S eval a.lua", &["list", "say"]);
 }
 
 // A device on which so many calls are done and then none.

@@ -53,5 +53,5 @@ returns-in_ok-install-in-Rock g c =
     let sound = subst (IsSound key) c.in-Rock.is c.in_ok-take.ensures.sound in
     let offer = subst (λ o. IfSome shelf.holds (λ servers. IsOffer servers key o)) c.in-Rock.is c.in_ok-take.ensures.offer in
     let installs = subst (λ files. Installs (Ok done) key files c.args.tree.now c.install.new.tree before now) c.deref.ensures.value c.in_ok-install-in-Rock.ensures in
-    installs_done (Add key) key staged.items c.args.tree.now c.install.new.tree before now shelf (g.F.Shelf.state c.take.new.shelf) (record { holds = c.in_ok-take.ensures.asks.holds; servers = c.in_ok-take.ensures.asks.servers; faults = c.in_ok-take.ensures.asks.faults }) done text installs
+    installs_done key staged.items c.args.tree.now c.install.new.tree before now shelf (g.F.Shelf.state c.take.new.shelf) (record { holds = c.in_ok-take.ensures.asks.holds; servers = c.in_ok-take.ensures.asks.servers; faults = c.in_ok-take.ensures.asks.faults }) done text installs
     (installed key staged before now c.args.tree.now c.install.new.tree text other c.in_ok-text-in-Rock.ensures shelf.holds sound offer done installs)

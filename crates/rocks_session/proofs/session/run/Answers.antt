@@ -1,7 +1,7 @@
 use Rattle.std.proofs.Common.{ap, inl, inr, refl, sym, ◌∙◌, arith}
 use Rattle.std.specs.Prelude.{Err}
 use Rattle.rocks_session.specs.declared.status.Status.TheVariants.{Done, Refused, NoMemory, DeviceFault, Damaged}
-use Rattle.rocks_session.proofs.Carried.{says_nothing, says_all, says_some, says_none, runs, refused_ends, done_ends}
+use Rattle.rocks_session.proofs.Carried.{says_nothing, says_all, says_some, says_none, runs, files_kept, refused_ends, done_ends}
 use Rattle.rocks_session.proofs.Complete.{anyway, not_damaged, risen_since}
 use Rattle.rocks_session.proofs.Writing.{fault_risen}
 use Rattle.rocks_session.proofs.session.run.Goals as goal
@@ -112,3 +112,38 @@ returns-in-Err-Failed-clause-complete g c = λ command set _.
     let now = (g.V.Device.state c.say.new.self).faults in
     anyway (g.V.Device.state c.args.device.now).files set _ _ DeviceFault
     (inr (inr (inl (risen_since first mid exec now c.open.ensures.faults c.execute.ensures.keeps.device_faults (fault_risen {T = Unit {0}} (Err c.in-Err-Failed.field-0) exec exec now (omega arith) c.in-Err-Failed.ensures.faults (ap Err c.in-Err-Failed.field-0-is))))))
+
+pub returns-in-Err-DeviceFault-execute-clause-evaluated : goal.returns-in-Err-DeviceFault-execute-clause-evaluated
+returns-in-Err-DeviceFault-execute-clause-evaluated g c = λ path evaluates.
+    files_kept _ c.in-Ok.command path c.in-Ok-open.tree c.execute.new.tree (g.V.Device.state c.args.device.now) (g.V.Device.state c.open.new.device) (g.V.Device.state c.execute.new.device) (g.V.Device.state c.execute.new.device)
+    c.open.ensures.left c.execute.ensures.untouched refl c.in-Ok.ensures evaluates
+
+pub returns-in-Err-ShelfFault-clause-evaluated : goal.returns-in-Err-ShelfFault-clause-evaluated
+returns-in-Err-ShelfFault-clause-evaluated g c = λ path evaluates.
+    files_kept _ c.in-Ok.command path c.in-Ok-open.tree c.execute.new.tree (g.V.Device.state c.args.device.now) (g.V.Device.state c.open.new.device) (g.V.Device.state c.execute.new.device) (g.V.Device.state c.execute.new.device)
+    c.open.ensures.left c.execute.ensures.untouched refl c.in-Ok.ensures evaluates
+
+pub returns-in-Err-NoMemory-execute-clause-evaluated : goal.returns-in-Err-NoMemory-execute-clause-evaluated
+returns-in-Err-NoMemory-execute-clause-evaluated g c = λ path evaluates.
+    files_kept _ c.in-Ok.command path c.in-Ok-open.tree c.execute.new.tree (g.V.Device.state c.args.device.now) (g.V.Device.state c.open.new.device) (g.V.Device.state c.execute.new.device) (g.V.Device.state c.execute.new.device)
+    c.open.ensures.left c.execute.ensures.untouched refl c.in-Ok.ensures evaluates
+
+pub returns-in-Ok-say-clause-evaluated : goal.returns-in-Ok-say-clause-evaluated
+returns-in-Ok-say-clause-evaluated g c = λ path evaluates.
+    files_kept _ c.in-Ok.command path c.in-Ok-open.tree c.execute.new.tree (g.V.Device.state c.args.device.now) (g.V.Device.state c.open.new.device) (g.V.Device.state c.execute.new.device) (g.V.Device.state c.say.new.self)
+    c.open.ensures.left c.execute.ensures.untouched c.in-Ok-say.ensures.files c.in-Ok.ensures evaluates
+
+pub returns-in-Ok-2-clause-evaluated : goal.returns-in-Ok-2-clause-evaluated
+returns-in-Ok-2-clause-evaluated g c = λ path evaluates.
+    files_kept _ c.in-Ok.command path c.in-Ok-open.tree c.execute.new.tree (g.V.Device.state c.args.device.now) (g.V.Device.state c.open.new.device) (g.V.Device.state c.execute.new.device) (g.V.Device.state c.say.new.self)
+    c.open.ensures.left c.execute.ensures.untouched c.in-Ok-2.ensures.files c.in-Ok.ensures evaluates
+
+pub returns-in-Err-Failed-clause-evaluated : goal.returns-in-Err-Failed-clause-evaluated
+returns-in-Err-Failed-clause-evaluated g c = λ path evaluates.
+    files_kept _ c.in-Ok.command path c.in-Ok-open.tree c.execute.new.tree (g.V.Device.state c.args.device.now) (g.V.Device.state c.open.new.device) (g.V.Device.state c.execute.new.device) (g.V.Device.state c.say.new.self)
+    c.open.ensures.left c.execute.ensures.untouched c.in-Err-Failed.ensures.files c.in-Ok.ensures evaluates
+
+pub returns-clause-evaluated : goal.returns-clause-evaluated
+returns-clause-evaluated g c = λ path evaluates.
+    files_kept _ c.in-Ok.command path c.in-Ok-open.tree c.execute.new.tree (g.V.Device.state c.args.device.now) (g.V.Device.state c.open.new.device) (g.V.Device.state c.execute.new.device) (g.V.Device.state c.say.new.self)
+    c.open.ensures.left c.execute.ensures.untouched c.in-Err-NoMemory-say.ensures.files c.in-Ok.ensures evaluates

@@ -1,16 +1,16 @@
 use Rattle.std.proofs.Common.{refl, arith}
 use Rattle.rocks_session.proofs.Asking.{stays_on}
 use Rattle.rocks_session.proofs.Servers.{found_too_long, found_bytes, not_here}
-use Rattle.rocks_session.proofs.take.find.Goals as goal
+use Rattle.rocks_session.proofs.search.find.Goals as goal
 
 pub returns-in-TooLong-clause-found : goal.returns-in-TooLong-clause-found
 returns-in-TooLong-clause-found g c =
-    found_too_long c.args.path.now c.loop-server.server c.in_ok-read.field-0 (g.F.Shelf.state c.args.shelf.now).holds (g.F.Shelf.state c.loop-server.shelf).holds
+    found_too_long c.args.limit c.args.path.now c.loop-server.server c.in_ok-read.field-0 (g.F.Shelf.state c.args.shelf.now).holds (g.F.Shelf.state c.loop-server.shelf).holds
     c.loop-server.invariant.stays.holds c.in-TooLong.is c.in_ok-read.ensures.found c.loop-server.invariant.none
 
 pub returns-in-Bytes-clause-found : goal.returns-in-Bytes-clause-found
 returns-in-Bytes-clause-found g c =
-    found_bytes c.args.path.now c.loop-server.server c.in_ok-read.field-0 c.in-Bytes.bytes c.loop-server.server (g.F.Shelf.state c.args.shelf.now).holds (g.F.Shelf.state c.loop-server.shelf).holds
+    found_bytes c.args.limit c.args.path.now c.loop-server.server c.in_ok-read.field-0 c.in-Bytes.bytes c.loop-server.server (g.F.Shelf.state c.args.shelf.now).holds (g.F.Shelf.state c.loop-server.shelf).holds
     refl c.loop-server.invariant.stays.holds c.in-Bytes.is c.in_ok-read.ensures.found c.loop-server.invariant.none
 
 pub loop-server-preserved : goal.loop-server-preserved
@@ -18,6 +18,6 @@ loop-server-preserved g c = record {
   stays = stays_on c.loop-server.invariant.stays c.in_ok-read.ensures.asks;
   servers = c.loop-server.invariant.servers;
   each = c.loop-server.invariant.each;
-  none = not_here c.args.path.now c.loop-server.server c.in_ok-read.field-0 (g.F.Shelf.state c.args.shelf.now).holds (g.F.Shelf.state c.loop-server.shelf).holds (g.F.Shelf.state c.args.shelf.now).servers
+  none = not_here c.args.limit c.args.path.now c.loop-server.server c.in_ok-read.field-0 (g.F.Shelf.state c.args.shelf.now).holds (g.F.Shelf.state c.loop-server.shelf).holds (g.F.Shelf.state c.args.shelf.now).servers
       c.loop-server.invariant.stays.holds (omega (arith, c.loop-server.invariant.servers)) c.loop-server.invariant.each c.in-Absent.is c.in_ok-read.ensures.found c.loop-server.invariant.none;
 }

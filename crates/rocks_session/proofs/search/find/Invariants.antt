@@ -1,7 +1,7 @@
 use Rattle.std.proofs.Common.{◌≡◌, length, drop, IfSome}
 use Rattle.rocks_session.specs.Unpacked.{earliest_with}
 use Rattle.rocks_session.proofs.Asking.{Stays}
-use Rattle.rocks_session.proofs.take.find.Given as goal
+use Rattle.rocks_session.proofs.search.find.Given as goal
 
 -- no server so far has the path
 abbrev pub invariant-loop-server : goal.invariant-loop-server
