@@ -1,30 +1,25 @@
 -- From what the parts of `eval` leave to what it leaves.
-use Rattle.std.proofs.Common.{◌≡◌, ◌<◌, ◌≤◌, ℕ, true, false, List, Option, None, Some, IfSome, length, is_some, refl, sym, ap, ◌∙◌, ◌+◌, arith, inl, inr, ⊎_elim}
+use Rattle.std.proofs.Common.{◌≡◌, ◌<◌, ℕ, true, false, List, Option, None, Some, IfSome, length, is_some, refl, sym, ap, ◌∙◌, ◌+◌, arith, inl, inr, ⊎_elim}
 use Rattle.std.proofs.lemmas.Bool.Decides.{nat_tests}
 use Rattle.std.specs.Prelude.{Result, Ok, Err, IfOk, option_and_then}
-use Rattle.std.specs.FinMap.{get, contains_key}
-use Rattle.lua_text.specs.Outcomes.{HasOutcome}
-use Rattle.lua_text.specs.declared.fault.EvalFailed.{EvalFailed}
+use Rattle.std.specs.FinMap.{get}
 use Rattle.lua_text.specs.declared.fault.EvalFailed.TheVariants.{Lex}
 use Rattle.lua_lexer.specs.declared.fault.LexFault.TheVariants as lex
-use Rattle.lua_value.specs.Pairs.{Pairs}
 use Rattle.rocks_text.specs.Files.{Files}
 use Rattle.rocks_outside.specs.Device.{DeviceState}
 use Rattle.rocks_outside.specs.Shelf.{ShelfState}
 use Rattle.tree_model.specs.Rock.{Rock}
-use Rattle.rocks_session.specs.Evaluated.{Tells}
-use Rattle.rocks_session.specs.Execute.{IsModels, CarriesOut, Executes, answered as outcome_of}
+use Rattle.rocks_session.specs.Execute.{IsModels, CarriesOut, Executes, outcome_of}
 use Rattle.rocks_session.specs.Opened.{IsOpenAs}
 use Rattle.rocks_session.specs.Search.{IsFoundIn}
 use Rattle.rocks_session.specs.Staged.{Asks}
-use Rattle.rocks_session.specs.Step.{Outcome, IsStep, Evaluates, refused, refusal_text, told, too_long}
+use Rattle.rocks_session.specs.Step.{Outcome, refused, refusal_text, too_long}
 use Rattle.rocks_session.specs.Unpacked.{earliest_with, earliest_at, is_file_within}
 use Rattle.rocks_session.specs.declared.eval.TheConstants.{LONGEST_TEXT}
 use Rattle.rocks_session.specs.declared.fault.SessionFault.{SessionFault}
 use Rattle.rocks_session.specs.declared.reply.Refusal.{Refusal}
-use Rattle.rocks_session.specs.declared.reply.Refusal.TheVariants.{NoFile, Lua}
 use Rattle.rocks_session.specs.declared.reply.Reply.{Reply}
-use Rattle.rocks_session.specs.declared.search.Found.TheVariants.{Nowhere, TooLong, At}
+use Rattle.rocks_session.specs.declared.search.Found.TheVariants.{TooLong}
 use Rattle.rocks_session.specs.declared.version.RockKey.{RockKey}
 use Rattle.rocks_session.specs.declared.words.Command.TheVariants.{Eval}
 use Rattle.rocks_session.proofs.Adding.{answered, broken_off}
@@ -35,10 +30,6 @@ use Rattle.rocks_session.proofs.Writing.{no_tick}
 pub refuses : (set : List Rock) (refusal : Refusal) (reply : Reply) → reply.refusal ≡ Some refusal → reply.text ≡ refusal_text refusal → outcome_of set reply ≡ refused set refusal
 refuses set refusal reply is says = λ i. record { set = set; refusal = is i; text = says i }
 
--- a reply that tells globals
-pub tells : (set : List Rock) (globals : Pairs) (reply : Reply) → reply.refusal ≡ None → reply.text ≡ (told set (Ok globals)).text → outcome_of set reply ≡ told set (Ok globals)
-tells set globals reply is says = λ i. record { set = set; refusal = is i; text = says i }
-
 -- the bytes of the file that was found
 bytes_at : (path : List ℕ) (servers : List Files) (files : Files) (held : Option (List ℕ)) → earliest_with path servers ≡ Some files → get files path ≡ held → earliest_at path servers ≡ held
 bytes_at path servers files held first at = ap (option_and_then (λ (f : Files). get f path)) first ∙ at
@@ -47,18 +38,8 @@ is_long : (held : Option (List ℕ)) → is_file_within LONGEST_TEXT held ≡ fa
 is_long None within text is = cc
 is_long (Some other) within text is = let same : other ≡ text = cc in grind (arith, nat_tests, ap length same)
 
-is_short : (text : List ℕ) → is_file_within LONGEST_TEXT (Some text) ≡ true → length text ≤ LONGEST_TEXT
-is_short text within = grind (arith, nat_tests)
-
 module _ (path : List ℕ) (set : List Rock) where
-  -- the model's only outcome, where no server has the file
-  pub absent : (holds : Option (List Files)) (outcome : Outcome) → outcome ≡ refused set (NoFile path) → IfSome holds (λ servers. IsFoundIn LONGEST_TEXT servers path Nowhere) → IsModels (Eval path) set holds outcome
-  absent None outcome is found = record { told = tt; only = tt; own = inl is }
-  absent (Some servers) outcome is found = record { told = rw e is; only = λ other step. (rw e at step) ∙ sym is; own = inl is }
-    where
-      e : earliest_at path servers ≡ None
-      e = ap (option_and_then (λ (f : Files). get f path)) found
-
+  -- the model's only outcome, where the file is too long
   pub overlong : (holds : Option (List Files)) (outcome : Outcome) → outcome ≡ refused set too_long → IfSome holds (λ servers. IsFoundIn LONGEST_TEXT servers path TooLong) → IsModels (Eval path) set holds outcome
   overlong None outcome is found = record { told = tt; only = tt; own = inr (Err (Lex (lex.TooLong (LONGEST_TEXT + 1))), is) }
   overlong (Some servers) outcome is found = from (get found.0 path) refl
@@ -73,17 +54,6 @@ module _ (path : List ℕ) (set : List Rock) where
             only = λ other step. ⊎_elim (λ so. so.1 ∙ sym is) (λ so. absurd (omega (arith, so.0, long))) (rw e at step);
             own = inr (Err (Lex (lex.TooLong (LONGEST_TEXT + 1))), is);
           }
-
-  pub evaluated : (holds : Option (List Files)) (server : ℕ) (text : List ℕ) (reply : Reply) → Tells text reply → IfSome holds (λ servers. IsFoundIn LONGEST_TEXT servers path (At server text)) → IsModels (Eval path) set holds (outcome_of set reply)
-  evaluated None server text reply tells_it found = record { told = tt; only = tt; own = inr (tells_it.read, tells_it.told set) }
-  evaluated (Some servers) server text reply tells_it found =
-      let e : earliest_at path servers ≡ Some text = bytes_at path servers found.0 (Some text) found.1 found.3 in
-      let short : length text ≤ LONGEST_TEXT = is_short text (rw found.3 at found.4) in
-      record {
-        told = rw e (inr (short, (tells_it.read, tells_it.outcome, tells_it.told set)));
-        only = λ other step. ⊎_elim (λ so. absurd (omega (arith, so.0, short))) (λ so. so.1.2 ∙ ap (told set) (tells_it.only so.1.0 so.1.1) ∙ sym (tells_it.told set)) (rw e at step);
-        own = inr (tells_it.read, tells_it.told set);
-      }
 
 -- ---- after the command
 

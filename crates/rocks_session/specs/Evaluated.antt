@@ -4,7 +4,7 @@ use Rattle.lua_text.specs.Outcomes.{HasOutcome}
 use Rattle.lua_text.specs.declared.fault.EvalFailed.{EvalFailed}
 use Rattle.lua_value.specs.Pairs.{Pairs}
 use Rattle.tree_model.specs.Rock.{Rock}
-use Rattle.rocks_session.specs.Execute.{answered}
+use Rattle.rocks_session.specs.Execute.{outcome_of}
 use Rattle.rocks_session.specs.Step.{told}
 use Rattle.rocks_session.specs.declared.reply.Reply.{Reply}
 
@@ -13,4 +13,4 @@ pub record Tells (text : List ℕ) (reply : Reply) : Type 0 where
   pub read : Result Pairs EvalFailed
   pub outcome : HasOutcome text read
   pub only : (other : Result Pairs EvalFailed) → HasOutcome text other → other ≡ read
-  pub told : (set : List Rock) → answered set reply ≡ told set read
+  pub told : (set : List Rock) → outcome_of set reply ≡ told set read

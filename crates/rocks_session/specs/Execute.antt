@@ -23,8 +23,8 @@ pub record IsModels (command : Command) (set : List Rock) (servers : Option (Lis
   pub own : IsOutcomeOf command set outcome
 
 -- the outcome that a reply tells, where the set is kept
-abbrev pub answered : List Rock → Reply → Outcome
-answered set reply = record { set = set; refusal = reply.refusal; text = reply.text }
+abbrev pub outcome_of : List Rock → Reply → Outcome
+outcome_of set reply = record { set = set; refusal = reply.refusal; text = reply.text }
 
 -- the reply, the tree and the device after a command that was carried out, or refused
 pub record CarriesOut (command : Command) (set : List Rock) (servers : Option (List Files)) (reply : Reply) (keys : List RockKey) (before now : DeviceState) : Type 0 where

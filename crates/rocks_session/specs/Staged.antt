@@ -1,8 +1,8 @@
 -- Files that wait to be written into a tree, and what a shelf offers.
-use Rattle.std.specs.Prelude.{IfSome, IfErr, OnOk, IsErrOf, Result, ℕ, ◌+◌, ◌++◌, length, ◌≡◌, ◌<◌, ◌≤◌, List, [], ◌∷◌, map, Option, None, Some, true, false, slice_get, string_bytes, codes, ◌&&◌}
+use Rattle.std.specs.Prelude.{IfSome, IfErr, OnOk, IsErrOf, Result, ℕ, ◌+◌, ◌++◌, length, ◌≡◌, ◌≤◌, List, [], ◌∷◌, map, Option, None, Some, true, false, slice_get, string_bytes, codes, ◌&&◌}
 use Rattle.std.specs.List.{starts_with, list_all, filter_map}
 use Rattle.std.specs.Bool.{nat_eq}
-use Rattle.std.specs.FinMap.{insert, get, contains_key}
+use Rattle.std.specs.FinMap.{insert, get}
 use Rattle.rocks_text.specs.Files.{Files}
 use Rattle.tree_model.specs.Rock.{Rock}
 use Rattle.rocks_text.specs.declared.item.Item.{Item}

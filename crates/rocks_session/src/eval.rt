@@ -3,7 +3,7 @@ ghost use Rattle.std.specs.Prelude.{◌≡◌, ◌++◌, List, None, IfOk, codes
 ghost use Rattle.lua_print.specs.Printed.{HasNames, globals_text};
 ghost use Rattle.lua_value.specs.Ordered.{IsOrdered};
 ghost use Rattle.tree_model.specs.Rock.{Rock};
-ghost use Rattle.rocks_session.specs.Execute.{IsModels, answered};
+ghost use Rattle.rocks_session.specs.Execute.{IsModels, outcome_of};
 ghost use Rattle.rocks_session.specs.Evaluated.{Tells};
 ghost use Rattle.rocks_session.specs.Staged.{Asks};
 ghost use Rattle.rocks_session.specs.Step.{too_long};
@@ -30,7 +30,7 @@ pub(crate) fn eval<F: Shelf>(
     path: &FilePath,
 ) -> Result<Reply, SessionFault>
     ensures answer { IfOk result (λ reply. (set : List Rock)
-        → IsModels (Command.Eval path.now) set (F.state shelf.old).holds (answered set reply)) }
+        → IsModels (Command.Eval path.now) set (F.state shelf.old).holds (outcome_of set reply)) }
     ensures asks { Asks result (F.state shelf.old) (F.state shelf.new) }
 {
     match find(alloc, shelf, path, LONGEST_TEXT)? {

@@ -33,6 +33,7 @@ pub fn run<V: Device, F: Shelf, I: Source>(
     ensures opened { HasRun result → (set : List Rock) × Opens (V.state device.old).files set }
     ensures refused { result ≡ Status.Refused
         → (V.state device.new).files ≡ (V.state device.old).files }
+    // `eval` changes no file, whatever the status.
     ensures evaluated { (path : FilePath)
         → command_of (map string_bytes words.now) ≡ Ok (Command.Eval path)
         → (V.state device.new).files ≡ (V.state device.old).files }

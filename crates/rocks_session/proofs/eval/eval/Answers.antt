@@ -1,5 +1,5 @@
 use Rattle.std.proofs.Common.{Some, IfSome, ap, subst, ◌∙◌}
-use Rattle.rocks_session.specs.Execute.{answered}
+use Rattle.rocks_session.specs.Execute.{outcome_of}
 use Rattle.rocks_session.specs.Search.{IsFoundIn}
 use Rattle.rocks_session.specs.Step.{refusal_text, too_long}
 use Rattle.rocks_session.specs.declared.eval.TheConstants.{LONGEST_TEXT}
@@ -14,4 +14,4 @@ returns-in_ok-refused-in-TooLong-clause-answer g c = λ set.
     let found = subst (λ f. IfSome H (λ servers. IsFoundIn LONGEST_TEXT servers path f)) c.in-TooLong.is c.in_ok-find.ensures.found in
     let refusal = c.in_ok-refused-in-TooLong.ensures.refusal ∙ ap Some c.too_long.ensures in
     let text = c.in_ok-refused-in-TooLong.ensures.text ∙ ap refusal_text c.too_long.ensures in
-    overlong path set H (answered set reply) (refuses set too_long reply refusal text) found
+    overlong path set H (outcome_of set reply) (refuses set too_long reply refusal text) found
