@@ -1,10 +1,7 @@
--- How many outcomes a step has, by how many a text has.
+-- A step has one outcome at most, and it has one.
 use Rattle.std.proofs.Common.{◌≡◌, ◌<◌, ◌≤◌, ◌⊎◌, ℕ, true, false, ltb, List, Option, None, Some, length, refl, sym, ap, ◌∙◌, arith, inl, inr, ⊎_elim}
 use Rattle.std.proofs.lemmas.Bool.Decides.{nat_tests}
-use Rattle.std.specs.Prelude.{Result}
-use Rattle.lua_text.specs.Outcomes.{HasOutcome}
-use Rattle.lua_text.specs.declared.fault.EvalFailed.{EvalFailed}
-use Rattle.lua_value.specs.Pairs.{Pairs}
+use Rattle.lua_text.proofs.One.{one_outcome, some_outcome}
 use Rattle.rocks_text.specs.Files.{Files}
 use Rattle.tree_model.specs.Rock.{Rock}
 use Rattle.rocks_session.specs.Step.{Outcome, IsStep, Evaluates, adds, refused, told, too_long}
@@ -14,35 +11,31 @@ use Rattle.rocks_session.specs.declared.reply.Refusal.TheVariants.{NoFile}
 use Rattle.rocks_session.specs.declared.words.Command.{Command}
 use Rattle.rocks_session.specs.declared.words.Command.TheVariants.{Add, Eval}
 
--- one at most
-module _ (one_outcome : (text : List ℕ) (one other : Result Pairs EvalFailed) → HasOutcome text one → HasOutcome text other → one ≡ other) where
-  one_answer : (set : List Rock) (path : List ℕ) (held : Option (List ℕ)) (one other : Outcome) → Evaluates set path held one → Evaluates set path held other → one ≡ other
-  one_answer set path None one other first second = first ∙ sym second
-  one_answer set path (Some text) one other first second =
-      ⊎_elim
-      (λ a. ⊎_elim (λ b. a.1 ∙ sym b.1) (λ b. absurd (omega (arith, a.0, b.0))) second)
-      (λ a. ⊎_elim (λ b. absurd (omega (arith, a.0, b.0))) (λ b. a.1.2 ∙ ap (told set) (one_outcome text a.1.0 b.1.0 a.1.1 b.1.1) ∙ sym b.1.2) second)
-      first
+one_answer : (set : List Rock) (path : List ℕ) (held : Option (List ℕ)) (one other : Outcome) → Evaluates set path held one → Evaluates set path held other → one ≡ other
+one_answer set path None one other first second = first ∙ sym second
+one_answer set path (Some text) one other first second =
+    ⊎_elim
+    (λ a. ⊎_elim (λ b. a.1 ∙ sym b.1) (λ b. absurd (omega (arith, a.0, b.0))) second)
+    (λ a. ⊎_elim (λ b. absurd (omega (arith, a.0, b.0))) (λ b. a.1.2 ∙ ap (told set) (one_outcome text a.1.0 b.1.0 a.1.1 b.1.1) ∙ sym b.1.2) second)
+    first
 
-  pub one_step : (servers : List Files) (set : List Rock) (command : Command) (one other : Outcome) → IsStep servers set command one → IsStep servers set command other → one ≡ other
-  one_step servers set (Add key) one other first second = first ∙ sym second
-  one_step servers set (Eval path) one other first second = one_answer set path (earliest_at path servers) one other first second
+pub one_step : (servers : List Files) (set : List Rock) (command : Command) (one other : Outcome) → IsStep servers set command one → IsStep servers set command other → one ≡ other
+one_step servers set (Add key) one other first second = first ∙ sym second
+one_step servers set (Eval path) one other first second = one_answer set path (earliest_at path servers) one other first second
 
--- and one at least
-module _ (some_outcome : (text : List ℕ) → (outcome : Result Pairs EvalFailed) × HasOutcome text outcome) where
-  short_or_long : (text : List ℕ) → (LONGEST_TEXT < length text) ⊎ (length text ≤ LONGEST_TEXT)
-  short_or_long text =
-      elim (ltb LONGEST_TEXT (length text)) as (λ b. ltb LONGEST_TEXT (length text) ≡ b → (LONGEST_TEXT < length text) ⊎ (length text ≤ LONGEST_TEXT)) [
-        | true ↦ λ e. inl (grind (arith, nat_tests))
-        | false ↦ λ e. inr (grind (arith, nat_tests))
-      ] refl
+short_or_long : (text : List ℕ) → (LONGEST_TEXT < length text) ⊎ (length text ≤ LONGEST_TEXT)
+short_or_long text =
+    elim (ltb LONGEST_TEXT (length text)) as (λ b. ltb LONGEST_TEXT (length text) ≡ b → (LONGEST_TEXT < length text) ⊎ (length text ≤ LONGEST_TEXT)) [
+      | true ↦ λ e. inl (grind (arith, nat_tests))
+      | false ↦ λ e. inr (grind (arith, nat_tests))
+    ] refl
 
-  some_answer : (set : List Rock) (path : List ℕ) (held : Option (List ℕ)) → (outcome : Outcome) × Evaluates set path held outcome
-  some_answer set path None = (refused set (NoFile path), refl)
-  some_answer set path (Some text) =
-      let read = some_outcome text in
-      ⊎_elim (λ long. (refused set too_long, inl (long, refl))) (λ short. (told set read.0, inr (short, (read.0, read.1, refl)))) (short_or_long text)
+some_answer : (set : List Rock) (path : List ℕ) (held : Option (List ℕ)) → (outcome : Outcome) × Evaluates set path held outcome
+some_answer set path None = (refused set (NoFile path), refl)
+some_answer set path (Some text) =
+    let read = some_outcome text in
+    ⊎_elim (λ long. (refused set too_long, inl (long, refl))) (λ short. (told set read.0, inr (short, (read.0, read.1, refl)))) (short_or_long text)
 
-  pub some_step : (servers : List Files) (set : List Rock) (command : Command) → (outcome : Outcome) × IsStep servers set command outcome
-  some_step servers set (Add key) = (adds servers set key, refl)
-  some_step servers set (Eval path) = some_answer set path (earliest_at path servers)
+pub some_step : (servers : List Files) (set : List Rock) (command : Command) → (outcome : Outcome) × IsStep servers set command outcome
+some_step servers set (Add key) = (adds servers set key, refl)
+some_step servers set (Eval path) = some_answer set path (earliest_at path servers)
