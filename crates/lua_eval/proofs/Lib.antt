@@ -8,3 +8,4 @@ pub mod Kept
 pub mod Runs
 pub mod Keyed
 pub mod Joined
+pub mod Faults

@@ -1,9 +1,10 @@
 //! Laws of what chunks evaluate to, as contracts of functions that do nothing.
-ghost use Rattle.std.specs.Prelude.{◌≡◌, ◌≤◌, ℕ, List, ◌++◌, Ok};
+ghost use Rattle.std.specs.Prelude.{◌≡◌, ◌≢◌, ◌≤◌, ℕ, List, ◌++◌, Ok, Err};
 ghost use Rattle.lua_syntax.specs.declared.tree.Statement.{Statement};
 ghost use Rattle.lua_value.specs.Depth.{depth};
 ghost use Rattle.lua_value.specs.Ordered.{IsOrdered};
 ghost use Rattle.lua_value.specs.Pairs.{Pairs};
+ghost use Rattle.lua_eval.specs.declared.fault.EvalFault.TheVariants.{NoMemory};
 ghost use Rattle.lua_eval.specs.declared.weight.TheConstants.{HEAVIEST, DEEPEST};
 ghost use Rattle.lua_eval.specs.Joins.{and_then};
 ghost use Rattle.lua_eval.specs.Laws.{IsServedChunk, values_weight, EachKey, IsAssigned};
@@ -29,4 +30,9 @@ pub fn parts(chunk: &LuaChunk)
 pub fn keys(chunk: &LuaChunk)
     ensures { (globals : Pairs) → value_of chunk.now ≡ Ok globals
         → EachKey (IsAssigned chunk.now.statements) globals }
+{}
+
+/// What a chunk comes to is never want of memory: the definition has faults of the chunk alone.
+pub fn faults(chunk: &LuaChunk)
+    ensures { value_of chunk.now ≢ Err NoMemory }
 {}

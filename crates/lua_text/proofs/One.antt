@@ -19,9 +19,10 @@ use Rattle.lua_eval.specs.declared.fault.EvalFault.{EvalFault}
 use Rattle.lua_eval.specs.declared.fault.EvalFault.TheVariants as eval
 use Rattle.lua_eval.specs.Finding.{IsFaultOf}
 use Rattle.lua_eval.specs.Values.{value_of}
+use Rattle.lua_eval.proofs.Faults.{definite-chunk}
 use Rattle.lua_text.specs.declared.fault.EvalFailed.{EvalFailed}
 use Rattle.lua_text.specs.declared.fault.EvalFailed.TheVariants.{Lex, Syntax, Eval}
-use Rattle.lua_text.specs.Outcomes.{HasOutcome, evaluated, faulty as fails, underived, unspelled}
+use Rattle.lua_text.specs.Outcomes.{HasOutcome, IsOfText, evaluated, faulty as fails, underived, unspelled}
 
 abbrev Outcome : Type 0
 Outcome = Result Pairs EvalFailed
@@ -110,3 +111,19 @@ some_outcome text = elim (lists.either text) [
   | inl found ↦ tokens_outcome text found.0 found.1
   | inr found ↦ (Err (Lex found.0), unspelled found.0 found.1)
 ]
+
+-- ---- faults
+
+-- a fault among outcomes is the text's
+abbrev IsOwn : Outcome → Type 0
+IsOwn (Ok globals) = Unit {0}
+IsOwn (Err fault) = IsOfText fault
+
+own_outcome : (text : List ℕ) (outcome : Outcome) → HasOutcome text outcome → IsOwn outcome
+own_outcome text outcome (evaluated tokens chunk globals spells derives e) = tt
+own_outcome text outcome (fails tokens chunk fault spells derives e) = λ same. definite-chunk chunk (e ∙ ap (λ (f : EvalFault). Err f) same)
+own_outcome text outcome (underived tokens fault spells wrong) = λ same. subst (HasSyntaxFault tokens) same wrong
+own_outcome text outcome (unspelled fault wrong) = λ same. subst (HasLexFault text) same wrong
+
+pub own_fault : (text : List ℕ) (fault : EvalFailed) → HasOutcome text (Err fault) → IsOfText fault
+own_fault text fault is = own_outcome text (Err fault) is
