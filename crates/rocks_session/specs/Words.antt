@@ -68,8 +68,8 @@ eval_path (path ∷ words) = if not (is_file_path path) then Err (BadWords 1) el
     only [] = Ok (Eval path)
     only (word ∷ words) = Err (BadWords 2)
 
--- `add NAME VERSION` or `eval PATH`. A fault has the number of the first word that fits no command, which is the count of the
--- words where they end too early.
+-- `add NAME VERSION` or `eval PATH`. A fault has the number of the first word that fits no command, which is the count
+-- of the words where they end too early.
 abbrev pub command_in : List (List ℕ) → Result Command WordsFault
 command_in [] = Err (BadWords 0)
 command_in (word ∷ words) =

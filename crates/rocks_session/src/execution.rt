@@ -12,9 +12,9 @@ use std::alloc::Global;
 /// Carries one command out on a tree that was opened, over the servers of a shelf. All files of a rock are read
 /// before the first one is written; then they are written, and synced.
 ///
-/// A refusal changes no file and not the tree, and neither does `eval`, whatever it answers. `DeviceFault` and `ShelfFault` come only where the device or the shelf
-/// failed in the call, and `NoMemory` where memory runs out. After `ShelfFault` all is as before; after the others the
-/// device is opened again.
+/// A refusal changes no file and not the tree, and neither does `eval`, whatever it answers. `DeviceFault` and
+/// `ShelfFault` come only where the device or the shelf failed in the call, and `NoMemory` where memory runs out. After
+/// `ShelfFault` all is as before; after the others the device is opened again.
 pub fn execute<V: Device, F: Shelf>(
     alloc: Global,
     tree: &mut Tree,
