@@ -101,3 +101,16 @@ pub no_components : (text : List ℕ) → length text ≡ 0 → components text 
 unfolding components
 no_components [] none = refl
 no_components (b ∷ bs) none = absurd (omega arith)
+
+-- a text that begins with a letter or digit has a component, and a text with one is not empty
+pub some_component : (text : List ℕ) → 0 < length text → is_ascii_alphanumeric (slice_index text 0) ≡ true → 0 < length (components text)
+some_component text some begins =
+    elim (is_ascii_digit (slice_index text 0)) as (λ t. is_ascii_digit (slice_index text 0) ≡ t → 0 < length (components text)) [
+      | true ↦ λ digit. rw (number_first text digit) (omega arith)
+      | false ↦ λ other. let letter : is_ascii_alphabetic (slice_index text 0) ≡ true = grind (arith, nat_tests, begins, other) in rw (word_first text letter) (omega arith)
+    ] refl
+
+pub some_text : (text : List ℕ) → 0 < length (components text) → 0 < length text
+unfolding components
+some_text [] has = absurd (omega arith)
+some_text (b ∷ bs) has = omega arith

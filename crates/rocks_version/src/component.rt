@@ -1,4 +1,4 @@
-ghost use Rattle.std.specs.Prelude.{◌≡◌, ◌<◌, ◌≤◌, ◌∷◌, drop, not, length};
+ghost use Rattle.std.specs.Prelude.{◌≡◌, ◌<◌, ◌≤◌, ◌↔◌, ◌∷◌, drop, not, length};
 ghost use Rattle.std.specs.Prelude.{slice_index, slice_index_or, IsTrue};
 ghost use Rattle.std.specs.List.{prefix_len};
 ghost use Rattle.std.specs.Char.{is_ascii_alphabetic, is_ascii_alphanumeric, is_ascii_digit};
@@ -64,6 +64,14 @@ pub fn first(body: &[u8]) -> (Rung, &[u8])
         let (word, rest) = first_word(text);
         (word_rung(word), rest)
     }
+}
+
+/// Whether a body has a component: a letter or digit.
+pub fn has_component(body: &[u8]) -> bool
+    requires { IsTrue (has_short_numbers body.now) }
+    ensures { IsTrue result ↔ (0 < length (components body.now)) }
+{
+    !past_separators(body).is_empty()
 }
 
 // The body from its first letter or digit on.

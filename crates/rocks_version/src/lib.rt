@@ -9,6 +9,7 @@ mod order;
 mod text;
 mod version;
 
+pub use component::{Rung, Step, first, has_component};
 pub use fault::VersionFault;
 pub use key::{RockKey, before};
 pub use order::{compare, rank};

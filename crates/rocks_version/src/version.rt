@@ -1,5 +1,6 @@
 ghost use Rattle.std.specs.Prelude.{◌≡◌, IsTrue, IfOk, IfNone, IfSome, MatchResult};
-ghost use Rattle.rocks_version.specs.Texts.{is_version, is_rock_version};
+ghost use Rattle.rocks_version.specs.Texts.{body, has_short_numbers, is_version, is_rock_version};
+ghost use Rattle.rocks_version.specs.Texts.{revision};
 ghost use Rattle.rocks_version.specs.Faults.{fault_of};
 
 use crate::{VersionFault, text};
@@ -53,6 +54,23 @@ impl Version {
         ensures valid { IsTrue (is_version self.now) }
     {
         self.text.as_str()
+    }
+
+    /// The text before the revision and its dash, whose components `first` reads.
+    #[tactic(auto, using(crate::proofs::Parts::version_body_short))]
+    pub fn body(&self) -> &[u8]
+        ensures value { result.now ≡ body self.now }
+        ensures short { IsTrue (has_short_numbers result.now) }
+    {
+        text::body(self.as_str().as_bytes())
+    }
+
+    /// The revision, if the version has one.
+    #[tactic(auto, using(crate::proofs::Parts::version_short))]
+    pub fn revision(&self) -> Option<u64>
+        ensures { result ≡ revision self.now }
+    {
+        text::revision(self.as_str().as_bytes())
     }
 
     /// An equal version. The only error is want of memory.

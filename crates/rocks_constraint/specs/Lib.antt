@@ -1,0 +1,6 @@
+pub mod Alphabet
+pub mod Faults
+pub mod Grammar
+pub mod Meets
+pub mod Printed
+pub mod Wanted

@@ -1,0 +1,115 @@
+ghost use Rattle.std.specs.Prelude.{◌≡◌, ◌≤◌, ◌⊎◌, length, string_bytes, IfErr, IfOk};
+ghost use Rattle.rocks_constraint.specs.Faults.{HasFault};
+ghost use Rattle.rocks_constraint.specs.Grammar.{IsDependency};
+ghost use Rattle.rocks_constraint.specs.Printed.{printed};
+
+use crate::constraint::{LONGEST, MOST_CONSTRAINTS};
+use crate::printed::push_constraints;
+use crate::reader::{Wrong, read_text};
+use crate::{Constraint, DependencyFault};
+use rocks_text::Name;
+use sqlite_items::Items;
+use std::alloc::{AllocError, Global};
+use std::marker::Model;
+
+/// What a rock needs: a package, and at most 32 constraints on its version (LuaRocks).
+#[derive(Debug, Drop)]
+pub struct Dependency {
+    name: Name,
+    constraints: Items<Constraint>,
+}
+
+impl Model for Dependency {
+    ghost use Rattle.std.specs.Prelude.{◌≤◌, length};
+    ghost use Rattle.rocks_constraint.specs.Wanted.{Wanted};
+    ghost use Rattle.rocks_constraint.specs.declared.constraint.TheConstants.{MOST_CONSTRAINTS};
+
+    ghost Value = { Wanted };
+
+    ghost view = { λ d. record { name = d.name; constraints = d.constraints } };
+
+    ghost invariant = { λ d. length d.constraints ≤ MOST_CONSTRAINTS };
+}
+
+impl Dependency {
+    /// The dependency that a text is. A text that is none has one fault, or memory runs out first.
+    pub fn read(alloc: Global, text: &str) -> Result<Dependency, DependencyFault>
+        ensures read { IfOk result (λ d. IsDependency text.now d.name d.constraints) }
+        ensures fault { IfErr result (λ fault.
+            (fault ≡ DependencyFault.NoMemory) ⊎ HasFault text.now fault) }
+    {
+        match read_text(alloc, text.as_bytes()) {
+            Ok((name, constraints)) if text.len() <= LONGEST => Ok(Dependency { name, constraints }),
+            Ok(_) => Err(DependencyFault::BadDependency {
+                place: LONGEST as u32,
+            }),
+            Err(wrong) => Err(limited(text.len(), wrong)),
+        }
+    }
+
+    /// The package that is needed.
+    pub fn name(&self) -> &Name
+        ensures { result.now ≡ self.now.name }
+    {
+        &self.name
+    }
+
+    /// What its version has to meet.
+    pub fn constraints(&self) -> &[Constraint]
+        ensures value { result.now ≡ self.now.constraints }
+        ensures few { length result.now ≤ MOST_CONSTRAINTS }
+    {
+        self.constraints.as_slice()
+    }
+
+    /// The dependency's text: the name, and each constraint behind a blank, with commas between them. The only error
+    /// is want of memory.
+    pub fn text(&self, alloc: Global) -> Result<String, AllocError>
+        ensures { IfOk result
+            (λ text. string_bytes text ≡ printed self.now.name self.now.constraints) }
+    {
+        let mut text = String::from_str(alloc, self.name.as_str())?;
+        push_constraints(&mut text, self.constraints.as_slice())?;
+        Ok(text)
+    }
+
+    /// An equal dependency. The only error is want of memory.
+    pub fn copy(&self, alloc: Global) -> Result<Dependency, AllocError>
+        ensures { IfOk result (λ copied. copied ≡ self.now) }
+    {
+        Ok(Dependency {
+            name: self.name.copy(alloc)?,
+            constraints: copied(alloc, self.constraints.as_slice())?,
+        })
+    }
+}
+
+fn copied(alloc: Global, constraints: &[Constraint]) -> Result<Items<Constraint>, AllocError>
+    ensures { IfOk result (λ copied. copied ≡ constraints.now) }
+{
+    let mut copied = Items::new(alloc);
+    for constraint in constraints {
+        copied.push(constraint.copy(alloc)?)?;
+    }
+    Ok(copied)
+}
+
+// The fault of a text of that length whose first wrong part this is.
+fn limited(length: usize, wrong: Wrong) -> DependencyFault {
+    match wrong {
+        Wrong::Operator(place) if length <= LONGEST || place < LONGEST => {
+            DependencyFault::BadOperator {
+                place: place as u32,
+            }
+        }
+        Wrong::Other(place) if length <= LONGEST || place < LONGEST => {
+            DependencyFault::BadDependency {
+                place: place as u32,
+            }
+        }
+        Wrong::NoMemory => DependencyFault::NoMemory,
+        _ => DependencyFault::BadDependency {
+            place: LONGEST as u32,
+        },
+    }
+}
