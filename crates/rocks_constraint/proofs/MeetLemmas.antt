@@ -58,13 +58,20 @@ module _ (cs ds : List Component) (left_step right_step : Step) (left_place righ
   first_same = rw (← is_left_step, ← is_right_step, ← is_left_place, ← is_right_place) (sym is_equal)
 
   pub same_equal : equal ≡ true → 0 < length cs → 0 < length ds → are_same (drop 1 cs) (drop 1 ds) ≡ are_same cs ds
-  same_equal yes left right = sym (same_first cs ds left right ∙ ap (λ t. t && are_same (drop 1 cs) (drop 1 ds)) (first_same ∙ yes))
+  same_equal t left right = sym (same_first cs ds left right ∙ ap (λ b. b && are_same (drop 1 cs) (drop 1 ds)) (first_same ∙ t))
 
   pub same_unequal : equal ≡ false → 0 < length cs → 0 < length ds → false ≡ are_same cs ds
-  same_unequal no left right = sym (same_first cs ds left right ∙ ap (λ t. t && are_same (drop 1 cs) (drop 1 ds)) (first_same ∙ no))
+  same_unequal t left right = sym (same_first cs ds left right ∙ ap (λ b. b && are_same (drop 1 cs) (drop 1 ds)) (first_same ∙ t))
 
   pub begin_equal : equal ≡ true → 0 < length ds → begin_with (drop 1 cs) (drop 1 ds) ≡ begin_with cs ds
-  begin_equal yes some = sym (begin_first cs ds some ∙ ap (λ t. t && begin_with (drop 1 cs) (drop 1 ds)) (first_same ∙ yes))
+  begin_equal t some = sym (begin_first cs ds some ∙ ap (λ b. b && begin_with (drop 1 cs) (drop 1 ds)) (first_same ∙ t))
 
   pub begin_unequal : equal ≡ false → 0 < length ds → false ≡ begin_with cs ds
-  begin_unequal no some = sym (begin_first cs ds some ∙ ap (λ t. t && begin_with (drop 1 cs) (drop 1 ds)) (first_same ∙ no))
+  begin_unequal t some = sym (begin_first cs ds some ∙ ap (λ b. b && begin_with (drop 1 cs) (drop 1 ds)) (first_same ∙ t))
+
+-- what a test tells of a list that it found empty, and of one that it found not to be
+pub refuted : (has : Bool) (cs : List Component) → (0 < length cs → has ≡ true) → has ≡ false → 0 < length cs → ⊥
+refuted has cs all none some = let h = all some in cc
+
+pub there : (has : Bool) (cs : List Component) → (has ≡ true → 0 < length cs) → has ≡ true → 0 < length cs
+there has cs some h = some h
