@@ -1,2 +1,4 @@
 pub mod Cuts
 pub mod MeetLemmas
+pub mod Runs
+pub mod Tails

@@ -30,8 +30,7 @@ pub data IsTail : ℕ → List ℕ → List Constraint → Type 0 where
       → IsTail count text (constraint ∷ constraints)
 
 -- The text is blanks, the longest run of a name's bytes, and the constraints behind it.
-pub record IsDependency (text name : List ℕ) (constraints : List Constraint) : Type 0 where
-  pub short : length text ≤ LONGEST
+pub record IsRead (text name : List ℕ) (constraints : List Constraint) : Type 0 where
   pub blanks : List ℕ
   pub from_name : List ℕ
   pub run : List ℕ
@@ -41,3 +40,7 @@ pub record IsDependency (text name : List ℕ) (constraints : List Constraint) :
   pub lowers : name ≡ lowered run
   pub is_one : IsTrue (is_name name)
   pub tail : IsTail 0 behind constraints
+
+-- The text is such a one, and short enough.
+abbrev pub IsDependency : (text name : List ℕ) → List Constraint → Type 0
+IsDependency text name constraints = (length text ≤ LONGEST) × IsRead text name constraints

@@ -34,6 +34,7 @@ pub fn cut_run(text: &[u8]) -> (&[u8], &[u8])
 }
 
 /// A run of letters, digits and separators, as a text.
+#[tactic(auto, using(crate::proofs::Runs::run_utf8))]
 pub fn run_text(run: &[u8]) -> &str
     requires { IsTrue (list_all is_version_byte run.now) }
     ensures { result.now ≡ run.now }

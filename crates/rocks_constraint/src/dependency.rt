@@ -1,5 +1,5 @@
 ghost use Rattle.std.specs.Prelude.{◌≡◌, ◌≤◌, ◌⊎◌, length, string_bytes, IfErr, IfOk};
-ghost use Rattle.rocks_constraint.specs.Faults.{HasFault};
+ghost use Rattle.rocks_constraint.specs.Faults.{fault_at, limited, place_of, HasFault};
 ghost use Rattle.rocks_constraint.specs.Grammar.{IsDependency};
 ghost use Rattle.rocks_constraint.specs.Printed.{printed};
 
@@ -94,8 +94,11 @@ fn copied(alloc: Global, constraints: &[Constraint]) -> Result<Items<Constraint>
     Ok(copied)
 }
 
-// The fault of a text of that length whose first wrong part this is.
-fn limited(length: usize, wrong: Wrong) -> DependencyFault {
+// The fault of a text of that length whose first wrong part this is, where it isn't want of memory.
+fn limited(length: usize, wrong: Wrong) -> DependencyFault
+    requires { place_of (fault_at wrong) ≤ length }
+    ensures { result ≡ limited length (fault_at wrong) }
+{
     match wrong {
         Wrong::Operator(place) if length <= LONGEST || place < LONGEST => {
             DependencyFault::BadOperator {

@@ -1,3 +1,10 @@
+ghost use Rattle.std.specs.Prelude.{◌≡◌, ◌≢◌, ◌+◌, ◌^◌, ◌<◌, ◌≤◌, ◌⊎◌, length, IfErr, IfOk};
+ghost use Rattle.rocks_constraint.specs.Alphabet.{operator_of};
+ghost use Rattle.rocks_constraint.specs.Faults.{fault_at, place_of, version_place, HasWrongTail};
+ghost use Rattle.rocks_constraint.specs.Faults.{IsNoConstraint, IsWrong};
+ghost use Rattle.rocks_constraint.specs.Grammar.{IsConstraintAt, IsRead, IsTail};
+ghost use Rattle.rocks_constraint.specs.declared.reader.Wrong.TheVariants.{NoMemory};
+
 use crate::constraint::MOST_CONSTRAINTS;
 use crate::cut::{cut_blanks, cut_gap, cut_operator, cut_run, run_text};
 use crate::{Constraint, Operator};
@@ -15,13 +22,21 @@ pub enum Wrong {
 }
 
 impl From<AllocError> for Wrong {
+    ghost from_gives = { λ _ wrong. wrong ≡ NoMemory };
+
     fn from(_: AllocError) -> Wrong {
         Wrong::NoMemory
     }
 }
 
 /// The name and the constraints of a text of any length.
-pub fn read_text(alloc: Global, text: &[u8]) -> Result<(Name, Items<Constraint>), Wrong> {
+pub fn read_text(alloc: Global, text: &[u8]) -> Result<(Name, Items<Constraint>), Wrong>
+    ensures read { IfOk result (λ read. IsRead text.now read.0 read.1) }
+    ensures few { IfOk result (λ read. length read.1 ≤ MOST_CONSTRAINTS) }
+    ensures wrong { IfErr result (λ wrong.
+        (wrong ≡ Wrong.NoMemory) ⊎ IsWrong text.now (fault_at wrong)) }
+    ensures within { IfErr result (λ wrong. place_of (fault_at wrong) ≤ length text.now) }
+{
     let (blanks, from_name) = cut_blanks(text);
     let (run, behind) = cut_run(from_name);
     let name = match Name::from_text(alloc, run_text(run)) {
@@ -29,58 +44,98 @@ pub fn read_text(alloc: Global, text: &[u8]) -> Result<(Name, Items<Constraint>)
         Err(TextFault::NoMemory) => return Err(Wrong::NoMemory),
         Err(_) => return Err(Wrong::Other(blanks.len())),
     };
-    let constraints = read_tail(alloc, blanks.len() + run.len(), behind)?;
-    Ok((name, constraints))
+    match read_tail(alloc, blanks.len() + run.len(), behind) {
+        Ok(constraints) => Ok((name, constraints)),
+        Err(wrong) => Err(wrong),
+    }
 }
 
 // The constraints that stand behind a name, from that place on.
-fn read_tail(alloc: Global, mut place: usize, text: &[u8]) -> Result<Items<Constraint>, Wrong> {
+fn read_tail(alloc: Global, start: usize, whole: &[u8]) -> Result<Items<Constraint>, Wrong>
+    requires { start + length whole.now < 2 ^ 64 }
+    ensures read { IfOk result (λ constraints. IsTail 0 whole.now constraints) }
+    ensures few { IfOk result (λ constraints. length constraints ≤ MOST_CONSTRAINTS) }
+    ensures wrong { IfErr result (λ wrong.
+        (wrong ≡ Wrong.NoMemory) ⊎ HasWrongTail 0 start whole.now (fault_at wrong)) }
+    ensures within { IfErr result
+        (λ wrong. place_of (fault_at wrong) ≤ start + length whole.now) }
+{
     let mut constraints = Items::new(alloc);
-    let mut text = text;
+    let mut text = whole;
+    let mut place = start;
     loop {
         let (gap, behind) = cut_gap(constraints.len(), text);
         if behind.is_empty() {
             return Ok(constraints);
         }
-        place += gap.len();
+        let from = place + gap.len();
         if constraints.len() == MOST_CONSTRAINTS {
-            return Err(Wrong::Other(place));
+            return Err(Wrong::Other(from));
         }
-        let (constraint, rest) = read_constraint(alloc, place, behind)?;
-        constraints.push(constraint)?;
-        place += behind.len() - rest.len();
-        text = rest;
+        match read_constraint(alloc, from, behind) {
+            Ok((constraint, rest)) => {
+                constraints.push(constraint)?;
+                place = from + (behind.len() - rest.len());
+                text = rest;
+            }
+            Err(wrong) => return Err(wrong),
+        }
     }
 }
 
 // The constraint at the front of a text that stands at a place, and what follows it.
-fn read_constraint(alloc: Global, place: usize, text: &[u8]) -> Result<(Constraint, &[u8]), Wrong> {
+fn read_constraint(alloc: Global, place: usize, text: &[u8]) -> Result<(Constraint, &[u8]), Wrong>
+    requires { place + length text.now < 2 ^ 64 }
+    ensures read { IfOk result (λ read. IsConstraintAt text.now read.0 read.1.now) }
+    ensures wrong { IfErr result (λ wrong.
+        (wrong ≡ Wrong.NoMemory) ⊎ IsNoConstraint place text.now (fault_at wrong)) }
+    ensures within { IfErr result (λ wrong. place_of (fault_at wrong) ≤ place + length text.now) }
+{
     let (run, behind) = cut_operator(text);
     let Some(operator) = operator_of(run) else {
         return Err(Wrong::Operator(place));
     };
     let (blanks, from_version) = cut_blanks(behind);
     let (version, rest) = cut_run(from_version);
-    let place = place + run.len() + blanks.len();
     match Version::read(alloc, run_text(version)) {
         Ok(version) => Ok((Constraint { operator, version }, rest)),
-        Err(VersionFault::BadVersion { place: behind }) => Err(Wrong::Other(place + behind as usize)),
-        Err(VersionFault::NumberTooLong { place: behind }) => {
-            Err(Wrong::Other(place + behind as usize))
-        }
-        Err(VersionFault::NoMemory) => Err(Wrong::NoMemory),
+        Err(fault) => Err(version_wrong(place + run.len() + blanks.len(), fault)),
     }
 }
 
-fn operator_of(run: &[u8]) -> Option<Operator> {
-    match run {
-        b"" | b"=" | b"==" => Some(Operator::Eq),
-        b"~=" | b"!=" => Some(Operator::Ne),
-        b"<" => Some(Operator::Lt),
-        b">" => Some(Operator::Gt),
-        b"<=" => Some(Operator::Le),
-        b">=" => Some(Operator::Ge),
-        b"~>" => Some(Operator::Near),
-        _ => None,
+// What is wrong with a run at a place that is no version.
+fn version_wrong(place: usize, fault: VersionFault) -> Wrong
+    requires { place + version_place fault < 2 ^ 64 }
+    ensures place { fault ≢ VersionFault.NoMemory
+        → result ≡ Wrong.Other (place + version_place fault) }
+    ensures memory { fault ≡ VersionFault.NoMemory → result ≡ Wrong.NoMemory }
+{
+    match fault {
+        VersionFault::BadVersion { place: behind } => Wrong::Other(place + behind as usize),
+        VersionFault::NumberTooLong { place: behind } => Wrong::Other(place + behind as usize),
+        VersionFault::NoMemory => Wrong::NoMemory,
+    }
+}
+
+#[tactic(auto, unfolding(crate::specs::Alphabet::operator_of))]
+fn operator_of(run: &[u8]) -> Option<Operator>
+    ensures { result ≡ operator_of run.now }
+{
+    if run.is_empty() || run == b"=".as_slice() || run == b"==".as_slice() {
+        Some(Operator::Eq)
+    } else if run == b"~=".as_slice() || run == b"!=".as_slice() {
+        Some(Operator::Ne)
+    } else if run == b"<".as_slice() {
+        Some(Operator::Lt)
+    } else if run == b">".as_slice() {
+        Some(Operator::Gt)
+    } else if run == b"<=".as_slice() {
+        Some(Operator::Le)
+    } else if run == b">=".as_slice() {
+        Some(Operator::Ge)
+    } else if run == b"~>".as_slice() {
+        Some(Operator::Near)
+    } else {
+        None
     }
 }
