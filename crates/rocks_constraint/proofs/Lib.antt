@@ -1,4 +1,5 @@
 pub mod Cuts
 pub mod MeetLemmas
+pub mod Places
 pub mod Runs
 pub mod Tails
