@@ -1,5 +1,6 @@
 pub mod Cuts
 pub mod MeetLemmas
+pub mod Names
 pub mod Places
 pub mod Runs
 pub mod Tails

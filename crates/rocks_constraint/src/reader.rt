@@ -41,8 +41,8 @@ pub fn read_text(alloc: Global, text: &[u8]) -> Result<(Name, Items<Constraint>)
     let (run, behind) = cut_run(from_name);
     let name = match Name::from_text(alloc, run_text(run)) {
         Ok(name) => name,
-        Err(TextFault::NoMemory) => return Err(Wrong::NoMemory),
-        Err(_) => return Err(Wrong::Other(blanks.len())),
+        Err(TextFault::BadName) => return Err(Wrong::Other(blanks.len())),
+        Err(_) => return Err(Wrong::NoMemory),
     };
     match read_tail(alloc, blanks.len() + run.len(), behind) {
         Ok(constraints) => Ok((name, constraints)),
