@@ -1,6 +1,7 @@
 pub mod Cuts
 pub mod MeetLemmas
 pub mod Names
+pub mod Outcomes
 pub mod Places
 pub mod Runs
 pub mod Tails

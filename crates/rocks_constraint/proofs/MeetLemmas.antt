@@ -1,12 +1,10 @@
 -- Lists of components, from the front on.
-use Rattle.std.proofs.Common.{◌≡◌, ℕ, ◌+◌, ◌<◌, List, [], ◌∷◌, length, drop, refl, sym, ap, ◌∙◌, true, false, not, Bool, ◌&&◌, arith}
-use Rattle.std.specs.declared.cmp.Ordering.{Ordering}
+use Rattle.std.proofs.Common.{◌≡◌, ℕ, ◌<◌, List, [], ◌∷◌, length, drop, refl, sym, ap, ◌∙◌, true, false, not, Bool, ◌&&◌, arith}
 use Rattle.std.specs.List.{slice_index_or}
 use Rattle.std.specs.Ordering.{is_eq, nat_cmp, ordering_then}
-use Rattle.std.proofs.lemmas.Bool.Decides.{nat_tests}
 use Rattle.rocks_version.specs.Components.{Component, Number}
 use Rattle.rocks_version.specs.declared.component.Step.{Step}
-use Rattle.rocks_version.specs.Orders.{component_cmp, place_of, step_cmp, step_of}
+use Rattle.rocks_version.specs.Orders.{place_of, step_cmp, step_of}
 use Rattle.rocks_constraint.specs.Meets.{are_same, begin_with, is_same}
 
 abbrev pub front : List Component → Component

@@ -1,5 +1,5 @@
 -- The run that stands for a name, and what follows it.
-use Rattle.std.proofs.Common.{◌≡◌, ℕ, ◌+◌, ◌≤◌, List, length, refl, sym, ap, subst, ◌∙◌, true, false, Bool, arith, inl, inr}
+use Rattle.std.proofs.Common.{◌≡◌, ℕ, ◌+◌, List, length, refl, sym, ap, subst, ◌∙◌, true, false, Bool, arith, inl, inr}
 use Rattle.std.specs.Prelude.{◌⊎◌}
 use Rattle.rocks_text.specs.Texts.{is_name, lowered}
 use Rattle.rocks_version.specs.Texts.{is_version_byte}
@@ -8,7 +8,7 @@ use Rattle.rocks_constraint.specs.declared.fault.DependencyFault.TheVariants.{Ba
 use Rattle.rocks_constraint.specs.declared.reader.Wrong.{Wrong}
 use Rattle.rocks_constraint.specs.declared.reader.Wrong.TheVariants as wrongs
 use Rattle.rocks_constraint.specs.Alphabet.{is_blank, IsCut}
-use Rattle.rocks_constraint.specs.Faults.{fault_at, place_of, HasWrongTail, IsWrong, no_name, behind_name}
+use Rattle.rocks_constraint.specs.Faults.{fault_at, HasWrongTail, IsWrong, no_name, behind_name}
 use Rattle.rocks_constraint.specs.Grammar.{IsRead, IsTail}
 use Rattle.rocks_constraint.proofs.Tails.{cut_length}
 
@@ -33,8 +33,16 @@ module _ (text blanks from_name run behind given : List ℕ) (cut_blanks : IsCut
   name_read name constraints value good tail =
       let lowers : name ≡ lowered run = value ∙ ap (λ (t : List ℕ). lowered t) is_given in
       record {
-        blanks = blanks; from_name = from_name; run = run; behind = behind; cut_blanks = cut_blanks; cut_name = cut_name;
-        lowers = lowers; is_one = ap (λ (t : List ℕ). is_name t) lowers ∙ is_one good; tail = tail }
+        blanks = blanks;
+        from_name = from_name;
+        run = run;
+        behind = behind;
+        cut_blanks = cut_blanks;
+        cut_name = cut_name;
+        lowers = lowers;
+        is_one = ap (λ (t : List ℕ). is_name t) lowers ∙ is_one good;
+        tail = tail;
+      }
 
   pub behind_wrong : (wrong : Wrong) → (is_name (lowered given) ≡ false → ⊥) → (wrong ≡ wrongs.NoMemory) ⊎ HasWrongTail 0 (length blanks + length run) behind (fault_at wrong)
       → (wrong ≡ wrongs.NoMemory) ⊎ IsWrong text (fault_at wrong)

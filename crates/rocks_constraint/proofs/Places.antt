@@ -1,5 +1,5 @@
 -- Where the fault of a run lies.
-use Rattle.std.proofs.Common.{◌≡◌, ℕ, suc, ◌+◌, ◌-◌, ◌^◌, ◌<◌, ◌≤◌, List, [], ◌∷◌, length, refl, subst, true, false, not, Bool, cond, min, nat_lt, arith, Option, Some, None, if◌then◌else◌, ◌∙◌, ap, sym, inl, inr, Ok, Err, add_assoc}
+use Rattle.std.proofs.Common.{◌≡◌, ℕ, suc, ◌+◌, ◌≤◌, List, [], ◌∷◌, length, refl, subst, true, false, not, cond, nat_lt, arith, Option, Some, None, if◌then◌else◌, ◌∙◌, ap, sym, inl, inr, Err}
 use Rattle.std.specs.Prelude.{◌⊎◌, Result, IfNone, IfSome}
 use Rattle.std.specs.List.{position_or_len, prefix_len}
 use Rattle.std.specs.Option.{option_map_or}
@@ -42,9 +42,9 @@ unfolding fault_of
 version_within run fault =
     elim (has_form run) as (λ form. (if not form then Some (BadVersion (bad_place run)) else (if not (is_version run) then Some (NumberTooLong (long_number_place run)) else None)) ≡ Some fault → version_place fault ≤ length run) [
       | true ↦ elim (is_version run) as (λ version. (if not version then Some (NumberTooLong (long_number_place run)) else None) ≡ Some fault → version_place fault ≤ length run) [
-          | true ↦ λ e. cc
-          | false ↦ λ e. let same : NumberTooLong (long_number_place run) ≡ fault = cc in subst (λ (f : VersionFault). version_place f ≤ length run) same (long_within run)
-        ]
+        | true ↦ λ e. cc
+        | false ↦ λ e. let same : NumberTooLong (long_number_place run) ≡ fault = cc in subst (λ (f : VersionFault). version_place f ≤ length run) same (long_within run)
+      ]
       | false ↦ λ e. let same : BadVersion (bad_place run) ≡ fault = cc in subst (λ (f : VersionFault). version_place f ≤ length run) same (bad_within run)
     ]
 
@@ -94,9 +94,21 @@ module _ (place : ℕ) (text operator_run from_blanks blanks from_version run re
         | inl no_room ↦ inl (memory no_room)
         | inr is ↦
             let lacks : LacksVersion text (length operator_run + length blanks + version_place fault) = record {
-              operator_run = operator_run; from_blanks = from_blanks; blanks = blanks; from_version = from_version; run = run; rest = rest;
-              operator = operator; fault = fault; cut_operator = cut_operator; is_operator = is_operator; cut_blanks = cut_blanks; cut_version = cut_version;
-              no_version = is; place = refl } in
+              operator_run = operator_run;
+              from_blanks = from_blanks;
+              blanks = blanks;
+              from_version = from_version;
+              run = run;
+              rest = rest;
+              operator = operator;
+              fault = fault;
+              cut_operator = cut_operator;
+              is_operator = is_operator;
+              cut_blanks = cut_blanks;
+              cut_version = cut_version;
+              no_version = is;
+              place = refl;
+            } in
             let other = placed (λ m. no_memory run (is ∙ ap (λ (f : VersionFault). Some f) m)) in
             let same : place + (length operator_run + length blanks + version_place fault) ≡ place + length operator_run + length blanks + version_place fault = omega arith in
             inr (subst (λ (w : Wrong). IsNoConstraint place text (fault_at w)) (sym other)

@@ -1,11 +1,10 @@
 -- Texts behind a name, constraint by constraint.
-use Rattle.std.proofs.Common.{◌≡◌, ℕ, suc, ◌+◌, ◌<◌, ◌≤◌, List, [], ◌∷◌, ◌++◌, length, refl, sym, ap, subst, ◌∙◌, true, false, Bool, arith, append_assoc, length-append, Some, IsTrue, inl, inr}
+use Rattle.std.proofs.Common.{◌≡◌, ℕ, suc, ◌+◌, ◌<◌, ◌≤◌, List, [], ◌∷◌, ◌++◌, length, sym, ap, subst, ◌∙◌, true, Bool, arith, append_assoc, length-append, inl, inr}
 use Rattle.std.specs.Prelude.{◌⊎◌}
 use Rattle.std.proofs.lemmas.List.{append-nil}
-use Rattle.std.proofs.Math.Numerals.{add-one}
 use Rattle.rocks_version.specs.Texts.{body, has_form, has_revision, is_version, is_version_byte}
 use Rattle.rocks_constraint.specs.declared.constraint.Constraint.{Constraint}
-use Rattle.rocks_constraint.specs.declared.constraint.TheConstants.{LONGEST, MOST_CONSTRAINTS}
+use Rattle.rocks_constraint.specs.declared.constraint.TheConstants.{MOST_CONSTRAINTS}
 use Rattle.rocks_constraint.specs.declared.fault.DependencyFault.{DependencyFault}
 use Rattle.rocks_constraint.specs.declared.fault.DependencyFault.TheVariants.{BadDependency}
 use Rattle.rocks_constraint.specs.declared.reader.Wrong.{Wrong}

@@ -1,5 +1,5 @@
 -- Why a text is no dependency: its first part that is wrong. (This project's own.)
-use Rattle.std.specs.Prelude.{◌≡◌, ℕ, suc, false, ◌+◌, ◌<◌, ◌≤◌, ◌⊎◌, ◌||◌, nat_le, nat_lt, if◌then◌else◌, List, length, IsTrue, Option, Some, None}
+use Rattle.std.specs.Prelude.{◌≡◌, ℕ, suc, false, ◌+◌, ◌<◌, ◌||◌, nat_le, nat_lt, if◌then◌else◌, List, length, IsTrue, Some, None}
 use Rattle.rocks_text.specs.Texts.{is_name, lowered}
 use Rattle.rocks_version.specs.Faults.{fault_of}
 use Rattle.rocks_version.specs.Texts.{is_version_byte}

@@ -13,9 +13,7 @@ use rocks_version::{Rung, Version, compare, first, has_component};
 pub fn meets(version: &Version, constraints: &[Constraint]) -> bool
     ensures { result ≡ meets_all version.now constraints.now }
 {
-    constraints
-        .iter()
-        .all(|constraint| holds(version, constraint.operator, &constraint.version))
+    constraints.iter().all(|constraint| holds(version, constraint.operator, &constraint.version))
 }
 
 #[tactic(auto, unfolding(crate::specs::Meets::holds))]

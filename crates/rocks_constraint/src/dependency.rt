@@ -39,7 +39,10 @@ impl Dependency {
             (fault ≡ DependencyFault.NoMemory) ⊎ HasFault text.now fault) }
     {
         match read_text(alloc, text.as_bytes()) {
-            Ok((name, constraints)) if text.len() <= LONGEST => Ok(Dependency { name, constraints }),
+            Ok((name, constraints)) if text.len() <= LONGEST => Ok(Dependency {
+                name,
+                constraints,
+            }),
             Ok(_) => Err(DependencyFault::BadDependency {
                 place: LONGEST as u32,
             }),

@@ -1,8 +1,5 @@
-use Rattle.std.proofs.Common.{◌≡◌, ◌<◌, length, arith, true, ◌∙◌}
-use Rattle.std.proofs.lemmas.Bool.Decides.{nat_tests}
 use Rattle.rocks_version.specs.Components.{components}
-use Rattle.rocks_constraint.specs.Meets.{are_same}
-use Rattle.rocks_constraint.proofs.MeetLemmas.{same_none, same_longer, same_equal, same_unequal, fewer, refuted, there}
+use Rattle.rocks_constraint.proofs.MeetLemmas.{same_none, same_longer, same_equal, same_unequal, refuted, there}
 use Rattle.rocks_constraint.proofs.condition.+are_same.Goals as goal
 
 pub returns-then-not-has_component : goal.returns-then-not-has_component

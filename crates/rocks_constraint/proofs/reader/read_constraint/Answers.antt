@@ -1,4 +1,4 @@
-use Rattle.std.proofs.Common.{arith, ◌≡◌, ◌+◌, ◌≤◌, ◌∙◌, length, Some, inl, inr, sym}
+use Rattle.std.proofs.Common.{arith, ◌∙◌, inr, sym}
 use Rattle.rocks_constraint.specs.declared.reader.Wrong.TheVariants.{NoMemory}
 use Rattle.rocks_constraint.specs.Faults.{no_operator}
 use Rattle.rocks_constraint.proofs.Places.{place_within, read_cases, wrong_constraint, wrong_within}

@@ -1,4 +1,4 @@
-use Rattle.std.proofs.Common.{arith, ◌≡◌, ◌+◌, ◌<◌, ◌≤◌, ◌∙◌, length, List, ℕ, inr, subst, sym}
+use Rattle.std.proofs.Common.{arith, ◌<◌, length, ℕ, inr, subst}
 use Rattle.std.proofs.lemmas.Bool.Decides.{nat_tests}
 use Rattle.rocks_constraint.specs.Alphabet.{may_part, IsCut}
 use Rattle.rocks_constraint.proofs.Tails.{constraint_shorter, cut_length, fails_more, few_more, reads_more, tail_ended, tail_full, tail_wrong}
@@ -27,11 +27,12 @@ loop-gap-preserved c =
     let size = cut_length _ c.loop-gap.text.now _ _ c.cut_gap.ensures in
     let few : length c.loop-gap.constraints < 32 = omega arith in
     let one = c.in-Ok.ensures.read in
-    let after = c.in_ok-push-in-Ok.ensures.ok in
-    (few_more c.args.whole.now c.loop-gap.text.now _ _ _ _ _ _ few cut one after,
-    omega arith,
-    reads_more c.args.whole.now c.loop-gap.text.now _ _ _ _ _ _ few cut one after c.loop-gap.invariant.2,
-    fails_more c.args.whole.now c.loop-gap.text.now _ _ _ _ _ _ few cut one after c.args.start c.loop-gap.place _ (omega arith) c.loop-gap.invariant.3)
+    let after = c.in_ok-push-in-Ok.ensures.ok in (
+      few_more c.args.whole.now c.loop-gap.text.now _ _ _ _ _ _ few cut one after,
+      omega arith,
+      reads_more c.args.whole.now c.loop-gap.text.now _ _ _ _ _ _ few cut one after c.loop-gap.invariant.2,
+      fails_more c.args.whole.now c.loop-gap.text.now _ _ _ _ _ _ few cut one after c.args.start c.loop-gap.place _ (omega arith) c.loop-gap.invariant.3,
+    )
 
 pub returns-in-Err-clause-wrong : goal.returns-in-Err-clause-wrong
 returns-in-Err-clause-wrong c =

@@ -1,9 +1,5 @@
-use Rattle.std.proofs.Common.{◌≡◌, ◌+◌, ◌≤◌, ◌++◌, List, length}
-use Rattle.rocks_constraint.specs.declared.constraint.Constraint.{Constraint}
+use Rattle.std.proofs.Common.{◌≡◌, ◌+◌, ◌≤◌, length}
 use Rattle.rocks_constraint.specs.declared.constraint.TheConstants.{MOST_CONSTRAINTS}
-use Rattle.rocks_constraint.specs.declared.fault.DependencyFault.{DependencyFault}
-use Rattle.rocks_constraint.specs.Faults.{HasWrongTail}
-use Rattle.rocks_constraint.specs.Grammar.{IsTail}
 use Rattle.rocks_constraint.proofs.Tails.{Reads, Fails}
 use Rattle.rocks_constraint.proofs.reader.read_tail.Given as goal
 
