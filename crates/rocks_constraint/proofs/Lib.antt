@@ -1,4 +1,5 @@
 pub mod Cuts
+pub mod LawLemmas
 pub mod MeetLemmas
 pub mod Names
 pub mod Outcomes

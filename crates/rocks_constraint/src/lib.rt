@@ -6,6 +6,7 @@ mod constraint;
 mod cut;
 mod dependency;
 mod fault;
+pub mod laws;
 mod printed;
 mod reader;
 

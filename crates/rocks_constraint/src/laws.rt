@@ -1,0 +1,35 @@
+//! Laws of dependencies and of what meets them, as contracts of functions that do nothing.
+ghost use Rattle.std.specs.Prelude.{◌≡◌, ℕ, ◌&&◌, ◌||◌, false, not, List};
+ghost use Rattle.rocks_version.specs.Components.{components};
+ghost use Rattle.rocks_version.specs.Texts.{body, revision};
+ghost use Rattle.rocks_constraint.specs.Grammar.{IsDependency};
+ghost use Rattle.rocks_constraint.specs.Meets.{holds, meets_all};
+ghost use Rattle.rocks_constraint.specs.declared.constraint.Constraint.{Constraint};
+
+use crate::Operator;
+
+/// Whether a version meets constraints depends on its components and its revision alone.
+pub fn meets_by_components()
+    ensures { (left right : List ℕ) (constraints : List Constraint)
+        → components (body left) ≡ components (body right) → revision left ≡ revision right
+        → meets_all left constraints ≡ meets_all right constraints }
+{}
+
+/// No version is both below and above another; `<=` is `<` or neither, and `>=` is `>` or neither.
+pub fn comparisons_exclude()
+    ensures exclusive { (version given : List ℕ)
+        → (holds Operator.Lt version given && holds Operator.Gt version given) ≡ false }
+    ensures at_most { (version given : List ℕ) → holds Operator.Le version given
+        ≡ (holds Operator.Lt version given
+        || not (holds Operator.Lt version given || holds Operator.Gt version given)) }
+    ensures at_least { (version given : List ℕ) → holds Operator.Ge version given
+        ≡ (holds Operator.Gt version given
+        || not (holds Operator.Lt version given || holds Operator.Gt version given)) }
+{}
+
+/// A text is one dependency at most.
+pub fn one_dependency()
+    ensures { (text name other : List ℕ) (constraints others : List Constraint)
+        → IsDependency text name constraints → IsDependency text other others
+        → (name ≡ other) × (constraints ≡ others) }
+{}
