@@ -4,5 +4,6 @@ pub mod MeetLemmas
 pub mod Names
 pub mod Outcomes
 pub mod Places
+pub mod PrintedLemmas
 pub mod Runs
 pub mod Tails

@@ -1,12 +1,16 @@
 //! Laws of dependencies and of what meets them, as contracts of functions that do nothing.
-ghost use Rattle.std.specs.Prelude.{◌≡◌, ℕ, ◌&&◌, ◌||◌, false, not, List};
+ghost use Rattle.std.specs.Prelude.{◌≡◌, ℕ, ◌≤◌, ◌&&◌, ◌||◌, false, not, length, List, IsTrue};
+ghost use Rattle.std.specs.List.{list_all};
+ghost use Rattle.rocks_text.specs.Texts.{is_name};
 ghost use Rattle.rocks_version.specs.Components.{components};
-ghost use Rattle.rocks_version.specs.Texts.{body, revision};
+ghost use Rattle.rocks_version.specs.Texts.{body, is_version, revision};
 ghost use Rattle.rocks_constraint.specs.Grammar.{IsDependency};
 ghost use Rattle.rocks_constraint.specs.Meets.{holds, meets_all};
+ghost use Rattle.rocks_constraint.specs.Printed.{printed};
 ghost use Rattle.rocks_constraint.specs.declared.constraint.Constraint.{Constraint};
 
 use crate::Operator;
+use crate::constraint::{LONGEST, MOST_CONSTRAINTS};
 
 /// Whether a version meets constraints depends on its components and its revision alone.
 pub fn meets_by_components()
@@ -32,4 +36,13 @@ pub fn one_dependency()
     ensures { (text name other : List ℕ) (constraints others : List Constraint)
         → IsDependency text name constraints → IsDependency text other others
         → (name ≡ other) × (constraints ≡ others) }
+{}
+
+/// What is written for a name and constraints is read back as them, where it is short enough.
+pub fn written_is_read()
+    ensures { (name : List ℕ) (constraints : List Constraint) → IsTrue (is_name name)
+        → IsTrue (list_all (λ c. is_version c.version) constraints)
+        → length constraints ≤ MOST_CONSTRAINTS
+        → length (printed name constraints) ≤ LONGEST
+        → IsDependency (printed name constraints) name constraints }
 {}
