@@ -43,9 +43,15 @@ fn tells(alloc: Global, version: &str, dependency: &str, met: bool) -> bool {
 #[test]
 fn versions_meet_constraints(rt: HostRuntime) {
     for (version, dependency) in MET {
-        assert!(rt; tells(rt.alloc(), version, dependency, true), "{version} {dependency}");
+        assert!(rt;
+            tells(rt.alloc(), version, dependency, true),
+            "{version} {dependency}"
+        );
     }
     for (version, dependency) in UNMET {
-        assert!(rt; tells(rt.alloc(), version, dependency, false), "{version} {dependency}");
+        assert!(rt;
+            tells(rt.alloc(), version, dependency, false),
+            "{version} {dependency}"
+        );
     }
 }

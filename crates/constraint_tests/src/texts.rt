@@ -20,7 +20,11 @@ const READ: &[(&str, &str)] = &[
     ("a.b_c-d > scm-1 , ", "a.b_c-d > scm-1"),
 ];
 
-const BAD_OPERATOR: &[(&str, u32)] = &[("lua ! 5.1", 4), ("lua => 5.1", 4), ("lua >= 5.1, <> 5.5", 12)];
+const BAD_OPERATOR: &[(&str, u32)] = &[
+    ("lua ! 5.1", 4),
+    ("lua => 5.1", 4),
+    ("lua >= 5.1, <> 5.5", 12),
+];
 
 const BAD: &[(&str, u32)] = &[
     ("", 0),
@@ -105,6 +109,9 @@ fn limits_are_kept(rt: HostRuntime) {
     assert_eq!(rt; repeated_place(rt.alloc(), "lua", " 1", 33, ""), Some(68));
     assert_eq!(rt; repeated_place(rt.alloc(), "", " ", 997, "lua"), None);
     assert_eq!(rt; repeated_place(rt.alloc(), "", " ", 998, "lua"), Some(1000));
-    assert_eq!(rt; repeated_place(rt.alloc(), "", " ", 996, "lua/x"), Some(999));
+    assert_eq!(rt;
+        repeated_place(rt.alloc(), "", " ", 996, "lua/x"),
+        Some(999)
+    );
     assert_eq!(rt; repeated_place(rt.alloc(), "", " ", 1000, "/"), Some(1000));
 }

@@ -1,11 +1,11 @@
 -- The laws of constraints and dependencies.
-use Rattle.std.proofs.Common.{◌≡◌, ℕ, suc, ◌+◌, ◌<◌, List, [], ◌∷◌, ◌++◌, length, refl, sym, ap, subst, ◌∙◌, true, false, not, Bool, ◌&&◌, arith, Some, IsTrue}
+use Rattle.std.proofs.Common.{◌≡◌, ℕ, suc, List, [], ◌∷◌, ◌++◌, length, refl, sym, ap, subst, ◌∙◌, true, false, not, Bool, ◌&&◌, arith, IsTrue}
 use Rattle.std.specs.Prelude.{◌||◌}
 use Rattle.std.specs.declared.cmp.Ordering.{Ordering}
 use Rattle.std.specs.declared.cmp.Ordering.TheVariants.{Less, Equal, Greater}
 use Rattle.std.specs.List.{list_all}
 use Rattle.std.specs.Ordering.{is_ge, is_gt, is_le, is_lt}
-use Rattle.rocks_text.specs.Texts.{is_name, lowered}
+use Rattle.rocks_text.specs.Texts.{lowered}
 use Rattle.rocks_version.specs.Components.{components}
 use Rattle.rocks_version.specs.Orders.{version_cmp}
 use Rattle.rocks_version.specs.Texts.{body, is_version_byte, revision}
@@ -13,7 +13,7 @@ use Rattle.rocks_constraint.specs.declared.constraint.Constraint.{Constraint}
 use Rattle.rocks_constraint.specs.declared.constraint.Operator.{Operator}
 use Rattle.rocks_constraint.specs.declared.constraint.Operator.TheVariants.{Eq, Ne, Lt, Gt, Le, Ge, Near}
 use Rattle.rocks_constraint.specs.Alphabet.{may_part, is_operator_byte, is_blank, operator_of, BeginsOtherwise, IsCut}
-use Rattle.rocks_constraint.specs.Grammar.{IsConstraintAt, IsDependency, IsRead, IsTail, ended, goes_on}
+use Rattle.rocks_constraint.specs.Grammar.{IsConstraintAt, IsDependency, IsTail, ended, goes_on}
 use Rattle.rocks_constraint.specs.Meets.{holds, meets_all}
 use Rattle.rocks_constraint.proofs.Tails.{constraint_shorter}
 
@@ -95,7 +95,7 @@ pub one_cut : (test : ℕ → Bool) (text other run one rest left : List ℕ) �
 one_cut test text other run one rest left same cut again =
     cut_run test run one rest left (sym cut.whole ∙ same ∙ again.whole) cut.passes again.passes cut.longest again.longest
 
-one_constraint : (text other : List ℕ) (c d : Constraint) (rest left : List ℕ) → text ≡ other → IsConstraintAt text c rest → IsConstraintAt other d left → (c ≡ d) × (rest ≡ left)
+pub one_constraint : (text other : List ℕ) (c d : Constraint) (rest left : List ℕ) → text ≡ other → IsConstraintAt text c rest → IsConstraintAt other d left → (c ≡ d) × (rest ≡ left)
 one_constraint text other c d rest left same one again =
     let runs = one_cut is_operator_byte text other one.operator_run again.operator_run one.behind again.behind same one.cut_operator again.cut_operator in
     let blanks = one_cut is_blank one.behind again.behind one.blanks again.blanks one.from_version again.from_version runs.1 one.cut_blanks again.cut_blanks in
@@ -104,7 +104,7 @@ one_constraint text other c d rest left same one again =
     let operators : c.operator ≡ d.operator = cc somes in
     (λ i. record { operator = operators i; version = versions.0 i }, versions.1)
 
-none_left : (behind : List ℕ) (c : Constraint) (rest : List ℕ) → [] ≡ behind → IsConstraintAt behind c rest → ⊥
+pub none_left : (behind : List ℕ) (c : Constraint) (rest : List ℕ) → [] ≡ behind → IsConstraintAt behind c rest → ⊥
 none_left behind c rest empty one =
     let shorter = constraint_shorter behind c rest one in
     let none : 0 ≡ length behind = ap (λ (l : List ℕ). length l) empty in

@@ -1,4 +1,5 @@
 pub mod Cuts
+pub mod FaultLaws
 pub mod LawLemmas
 pub mod MeetLemmas
 pub mod Names

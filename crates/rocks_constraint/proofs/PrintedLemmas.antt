@@ -1,6 +1,5 @@
 -- What is written is read back.
-use Rattle.std.proofs.Common.{◌≡◌, ℕ, suc, ◌+◌, ◌<◌, ◌≤◌, List, [], ◌∷◌, ◌++◌, length, refl, sym, ap, subst, ◌∙◌, true, false, not, Bool, ◌&&◌, arith, append_assoc, Some, IsTrue, nat_lt, nat_le, slice_index, codes, map, ◌==◌}
-use Rattle.std.specs.Prelude.{◌||◌}
+use Rattle.std.proofs.Common.{◌≡◌, ℕ, suc, ◌+◌, ◌<◌, ◌≤◌, List, [], ◌∷◌, ◌++◌, length, refl, sym, ap, ◌∙◌, true, false, not, Bool, ◌&&◌, arith, append_assoc, Some, IsTrue, nat_lt, nat_le, slice_index, codes}
 use Rattle.std.specs.List.{flat_map, list_all}
 use Rattle.std.specs.Char.{is_ascii_alphanumeric, to_ascii_lowercase}
 use Rattle.std.specs.Str.{bytes_eq}
@@ -12,8 +11,8 @@ use Rattle.rocks_version.proofs.Parts.{form_is}
 use Rattle.rocks_constraint.specs.declared.constraint.Constraint.{Constraint}
 use Rattle.rocks_constraint.specs.declared.constraint.Operator.{Operator}
 use Rattle.rocks_constraint.specs.declared.constraint.Operator.TheVariants.{Eq, Ne, Lt, Gt, Le, Ge, Near}
-use Rattle.rocks_constraint.specs.Alphabet.{may_part, is_operator_byte, is_blank, operator_of, BeginsOtherwise, IsCut}
-use Rattle.rocks_constraint.specs.Grammar.{IsConstraintAt, IsDependency, IsRead, IsTail, ended, goes_on}
+use Rattle.rocks_constraint.specs.Alphabet.{may_part, is_operator_byte, is_blank, operator_of, BeginsOtherwise}
+use Rattle.rocks_constraint.specs.Grammar.{IsConstraintAt, IsDependency, IsTail, ended, goes_on}
 use Rattle.rocks_constraint.specs.Printed.{constraint_text, constraints_text, operator_text, printed}
 
 left : (a b : Bool) → (a && b) ≡ true → a ≡ true
@@ -163,15 +162,17 @@ printed_read name constraints named all few short =
     let front = left (nat_le 1 (length name) && nat_le (length name) 60 && is_ascii_alphanumeric (slice_index name 0) && list_all is_name_byte name) (not (bytes_eq name (codes "manifest"))) named in
     let bytes = right (nat_le 1 (length name) && nat_le (length name) 60 && is_ascii_alphanumeric (slice_index name 0)) (list_all is_name_byte name) front in
     let begins = right (nat_le 1 (length name) && nat_le (length name) 60) (is_ascii_alphanumeric (slice_index name 0))
-    (left (nat_le 1 (length name) && nat_le (length name) 60 && is_ascii_alphanumeric (slice_index name 0)) (list_all is_name_byte name) front) in
-    (short, record {
-      blanks = [];
-      from_name = printed name constraints;
-      run = name;
-      behind = constraints_text constraints;
-      cut_blanks = record { whole = refl; passes = refl; longest = begins_no_blank name (constraints_text constraints) begins };
-      cut_name = record { whole = refl; passes = name_bytes name bytes; longest = name_stops constraints };
-      lowers = low_name name bytes;
-      is_one = named;
-      tail = first_read constraints few all;
-    })
+    (left (nat_le 1 (length name) && nat_le (length name) 60 && is_ascii_alphanumeric (slice_index name 0)) (list_all is_name_byte name) front) in (
+      short,
+      record {
+        blanks = [];
+        from_name = printed name constraints;
+        run = name;
+        behind = constraints_text constraints;
+        cut_blanks = record { whole = refl; passes = refl; longest = begins_no_blank name (constraints_text constraints) begins };
+        cut_name = record { whole = refl; passes = name_bytes name bytes; longest = name_stops constraints };
+        lowers = low_name name bytes;
+        is_one = named;
+        tail = first_read constraints few all;
+      },
+    )

@@ -4,10 +4,12 @@ ghost use Rattle.std.specs.List.{list_all};
 ghost use Rattle.rocks_text.specs.Texts.{is_name};
 ghost use Rattle.rocks_version.specs.Components.{components};
 ghost use Rattle.rocks_version.specs.Texts.{body, is_version, revision};
+ghost use Rattle.rocks_constraint.specs.Faults.{HasFault};
 ghost use Rattle.rocks_constraint.specs.Grammar.{IsDependency};
 ghost use Rattle.rocks_constraint.specs.Meets.{holds, meets_all};
 ghost use Rattle.rocks_constraint.specs.Printed.{printed};
 ghost use Rattle.rocks_constraint.specs.declared.constraint.Constraint.{Constraint};
+ghost use Rattle.rocks_constraint.specs.declared.fault.DependencyFault.{DependencyFault};
 
 use crate::Operator;
 use crate::constraint::{LONGEST, MOST_CONSTRAINTS};
@@ -45,4 +47,10 @@ pub fn written_is_read()
         → length constraints ≤ MOST_CONSTRAINTS
         → length (printed name constraints) ≤ LONGEST
         → IsDependency (printed name constraints) name constraints }
+{}
+
+/// A text that is a dependency has no fault.
+pub fn dependency_without_fault()
+    ensures { (text name : List ℕ) (constraints : List Constraint) (fault : DependencyFault)
+        → IsDependency text name constraints → HasFault text fault → ⊥ }
 {}
