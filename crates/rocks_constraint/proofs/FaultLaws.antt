@@ -24,7 +24,7 @@ constraint_clean text c rest same one (no_version p behind other lacks) =
     let clash = sym (none_if_version c.version one.version) ∙ ap fault_of versions.0 ∙ lacks.no_version in
     cc clash
 
-no_wrong : {n p : ℕ} {other : List ℕ} {fault : DependencyFault} (count : ℕ) (text : List ℕ) (c : Constraint) (rest : List ℕ) → count ≡ n → text ≡ other → count < MOST_CONSTRAINTS
+pub no_wrong : {n p : ℕ} {other : List ℕ} {fault : DependencyFault} (count : ℕ) (text : List ℕ) (c : Constraint) (rest : List ℕ) → count ≡ n → text ≡ other → count < MOST_CONSTRAINTS
     → IsConstraintAt text c rest → IsWrongAt n p other fault → ⊥
 no_wrong count text c rest e same few one (too_many n p other full some) = absurd (omega arith)
 no_wrong count text c rest e same few one (no_constraint n p other fault fewer some bad) = constraint_clean text c rest same one bad
@@ -52,7 +52,7 @@ tail_clean e same (goes_on count text gap behind rest c cs few cut one tail) (la
     let firsts = one_constraint behind from c d rest left cuts.1 one first in
     tail_clean (ap suc e) firsts.1 tail end
 
-read_clean : {other : List ℕ} {fault : DependencyFault} (text name : List ℕ) (cs : List Constraint) → text ≡ other → IsRead text name cs → IsWrong other fault → ⊥
+pub read_clean : {other : List ℕ} {fault : DependencyFault} (text name : List ℕ) (cs : List Constraint) → text ≡ other → IsRead text name cs → IsWrong other fault → ⊥
 read_clean text name cs same one (no_name other blanks from_name run behind cut again bad) =
     let fronts = one_cut is_blank text other one.blanks blanks one.from_name from_name same one.cut_blanks cut in
     let runs = one_cut is_version_byte one.from_name from_name one.run run one.behind behind fronts.1 one.cut_name again in

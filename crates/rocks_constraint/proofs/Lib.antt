@@ -3,6 +3,7 @@ pub mod FaultLaws
 pub mod LawLemmas
 pub mod MeetLemmas
 pub mod Names
+pub mod OneFault
 pub mod Outcomes
 pub mod Places
 pub mod PrintedLemmas

@@ -54,3 +54,9 @@ pub fn dependency_without_fault()
     ensures { (text name : List ℕ) (constraints : List Constraint) (fault : DependencyFault)
         → IsDependency text name constraints → HasFault text fault → ⊥ }
 {}
+
+/// A text has one fault at most.
+pub fn one_fault()
+    ensures { (text : List ℕ) (fault other : DependencyFault) → HasFault text fault
+        → HasFault text other → fault ≡ other }
+{}
