@@ -1,2 +1,3 @@
 pub mod Below
 mod Lowered
+pub mod Modules

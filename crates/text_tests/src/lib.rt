@@ -2,6 +2,8 @@
 #![tactic(auto)]
 
 #[cfg(test)]
+mod modules;
+#[cfg(test)]
 mod places;
 #[cfg(test)]
 mod texts;
