@@ -3,14 +3,14 @@ use Rattle.std.proofs.Common.{◌≡◌, ℕ, List, refl, sym, ap, ◌∙◌, tr
 use Rattle.std.specs.Prelude.{◌⊎◌, ◌&&◌, ◌||◌, IsTrue, unwrap_or}
 use Rattle.std.specs.declared.cmp.Ordering.{Ordering}
 use Rattle.std.specs.declared.cmp.Ordering.TheVariants.{Less, Equal, Greater}
-use Rattle.std.specs.Ordering.{is_eq, is_gt, is_le, is_lt, nat_cmp, on, then_cmp, flip_args, ordering_reverse, ordering_then}
+use Rattle.std.specs.Ordering.{is_eq, is_gt, is_le, is_lt, nat_cmp, on, then_cmp, ordering_reverse, ordering_then}
 use Rattle.std.specs.Cmp.{IsTotalOrder}
 use Rattle.std.specs.Cmp.Lexicographic.{slice_cmp}
 use Rattle.std.proofs.lemmas.Cmp.{back_total, nat_cmp_total, nat_list_cmp_total, on_total, then_total, tied_itself, upto}
 use Rattle.std.proofs.lemmas.Map.Text.{is_eq-slice_cmp}
 use Rattle.std.proofs.lemmas.Slice.Eq.{bytes_eq-Decides}
 use Rattle.rocks_version.specs.Components.{components}
-use Rattle.rocks_version.specs.Keys.{is_before}
+use Rattle.rocks_version.specs.Keys.{is_before, listing_cmp}
 use Rattle.rocks_version.specs.Orders.{body_cmp, revision_cmp, version_cmp, version_rank}
 use Rattle.rocks_version.specs.Texts.{body, has_revision, revision}
 use Rattle.rocks_version.specs.declared.key.RockKey.{RockKey}
@@ -144,11 +144,8 @@ rank_refined left right l r =
 
 -- ---- the listing
 
-key_cmp : RockKey → RockKey → Ordering
-key_cmp = then_cmp (on (λ key. key.name) (slice_cmp nat_cmp)) (flip_args (on (λ key. key.version) version_rank))
-
-key_total : IsTotalOrder key_cmp
-unfolding key_cmp
+pub key_total : IsTotalOrder listing_cmp
+unfolding listing_cmp
 key_total = then_total (on_total (λ key. key.name) nat_list_cmp_total) (back_total (on_total (λ key. key.version) rank_total))
 
 listed : (names versions back : Ordering) → back ≡ ordering_reverse versions → (is_lt names || (is_eq names && is_gt versions)) ≡ is_lt (ordering_then names back)
@@ -158,8 +155,8 @@ listed Equal Equal back h = rw h refl
 listed Equal Greater back h = rw h refl
 listed Greater versions back h = refl
 
-is_before_is : (left right : RockKey) → is_before left right ≡ is_lt (key_cmp left right)
-unfolding is_before key_cmp
+pub is_before_is : (left right : RockKey) → is_before left right ≡ is_lt (listing_cmp left right)
+unfolding is_before listing_cmp
 is_before_is left right =
     listed (slice_cmp nat_cmp left.name right.name) (version_rank left.version right.version) (version_rank right.version left.version) (rank_total.antisymm right.version left.version)
 
@@ -168,8 +165,8 @@ listing_irreflexive key = is_before_is key key ∙ ap is_lt (tied_itself key_tot
 
 pub listing_transitive : (first second third : RockKey) → IsTrue (is_before first second) → IsTrue (is_before second third) → IsTrue (is_before first third)
 listing_transitive first second third h g =
-    let less = lt_less (key_cmp first second) (rw (is_before_is first second) at h) in
-    let less_too = lt_less (key_cmp second third) (rw (is_before_is second third) at g) in
+    let less = lt_less (listing_cmp first second) (rw (is_before_is first second) at h) in
+    let less_too = lt_less (listing_cmp second third) (rw (is_before_is second third) at g) in
     is_before_is first third ∙ ap is_lt (key_total.trans first second third less less_too)
 
 reverse_less : (o : Ordering) → o ≡ Less → is_lt (ordering_reverse o) ≡ false
@@ -177,21 +174,21 @@ reverse_less o h = rw h refl
 
 pub listing_asymmetric : (left right : RockKey) → IsTrue (is_before left right) → is_before right left ≡ false
 listing_asymmetric left right h =
-    let less = lt_less (key_cmp left right) (rw (is_before_is left right) at h) in
-    is_before_is right left ∙ ap is_lt (key_total.antisymm right left) ∙ reverse_less (key_cmp left right) less
+    let less = lt_less (listing_cmp left right) (rw (is_before_is left right) at h) in
+    is_before_is right left ∙ ap is_lt (key_total.antisymm right left) ∙ reverse_less (listing_cmp left right) less
 
-key_equal : (left right : RockKey) → key_cmp left right ≡ Equal → left ≡ right
-unfolding key_cmp
+pub key_equal : (left right : RockKey) → listing_cmp left right ≡ Equal → left ≡ right
+unfolding listing_cmp
 key_equal left right e =
     let parts = then_equal (slice_cmp nat_cmp left.name right.name) (version_rank right.version left.version) e in
     let names = bytes_equal left.name right.name parts.0 in
     let versions = sym (rank_equal right.version left.version parts.1) in
     λ i. record { name = names i; version = versions i }
 
-connected_by : (left right : RockKey) (o : Ordering) → key_cmp left right ≡ o → (left ≡ right) ⊎ (IsTrue (is_before left right) ⊎ IsTrue (is_before right left))
+connected_by : (left right : RockKey) (o : Ordering) → listing_cmp left right ≡ o → (left ≡ right) ⊎ (IsTrue (is_before left right) ⊎ IsTrue (is_before right left))
 connected_by left right Less h = inr (inl (is_before_is left right ∙ ap is_lt h))
 connected_by left right Equal h = inl (key_equal left right h)
 connected_by left right Greater h = inr (inr (is_before_is right left ∙ ap is_lt (key_total.antisymm right left ∙ ap ordering_reverse h)))
 
 pub listing_connected : (left right : RockKey) → (left ≡ right) ⊎ (IsTrue (is_before left right) ⊎ IsTrue (is_before right left))
-listing_connected left right = connected_by left right (key_cmp left right) refl
+listing_connected left right = connected_by left right (listing_cmp left right) refl

@@ -1,5 +1,5 @@
 ghost use Rattle.std.specs.Prelude.{◌≡◌, IfOk};
-ghost use Rattle.rocks_version.specs.Keys.{is_before};
+ghost use Rattle.rocks_version.specs.Keys.{is_before, listing_cmp};
 
 use crate::{Version, rank};
 use rocks_text::Name;
@@ -36,4 +36,14 @@ pub fn before(left: &RockKey, right: &RockKey) -> bool
         Ordering::Equal => rank(&left.version, &right.version).is_gt(),
         Ordering::Greater => false,
     }
+}
+
+/// How two rocks are listed, as `before` has it, to sort and to search by. It takes no memory.
+#[tactic(auto, unfolding(crate::specs::Keys::listing_cmp))]
+pub fn listing(left: &RockKey, right: &RockKey) -> Ordering
+    ensures { result ≡ listing_cmp left.now right.now }
+{
+    left.name
+        .cmp(&right.name)
+        .then(rank(&right.version, &left.version))
 }

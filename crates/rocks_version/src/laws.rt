@@ -3,12 +3,12 @@ ghost use Rattle.std.specs.Prelude.{◌≡◌, ℕ, ◌≤◌, ◌⊎◌, ◌↔
 ghost use Rattle.std.specs.Prelude.{IsTrue, None, Some};
 ghost use Rattle.std.specs.List.{list_all};
 ghost use Rattle.std.specs.Char.{is_ascii_digit};
-ghost use Rattle.std.specs.Ordering.{is_le, nat_cmp, ordering_reverse, ordering_then};
+ghost use Rattle.std.specs.Ordering.{is_le, is_lt, nat_cmp, ordering_reverse, ordering_then};
 ghost use Rattle.std.specs.Cmp.Lexicographic.{slice_cmp};
 ghost use Rattle.std.specs.Str.Parse.{digits_value};
 ghost use Rattle.std.specs.declared.cmp.Ordering.TheVariants.{Equal};
 ghost use Rattle.rocks_version.specs.Faults.{fault_of};
-ghost use Rattle.rocks_version.specs.Keys.{is_before};
+ghost use Rattle.rocks_version.specs.Keys.{is_before, listing_cmp};
 ghost use Rattle.rocks_version.specs.Orders.{version_cmp, version_rank};
 ghost use Rattle.rocks_version.specs.Texts.{body, has_revision, is_numeral, is_version, revision};
 ghost use Rattle.rocks_version.specs.declared.key.RockKey.{RockKey};
@@ -40,8 +40,11 @@ pub fn comparison_is_a_preorder()
         ≡ ordering_then (version_cmp left right) (slice_cmp nat_cmp left right) }
 {}
 
-/// No rock is listed before itself, and of two different ones one is listed before the other, and never both.
+/// No rock is listed before itself, and of two different ones one is listed before the other, and never both. A rock is
+/// before another where they compare as less.
 pub fn listing_is_strict()
+    ensures compared { (left right : RockKey)
+        → is_before left right ≡ is_lt (listing_cmp left right) }
     ensures irreflexive { (key : RockKey) → is_before key key ≡ false }
     ensures transitive { (first second third : RockKey) → IsTrue (is_before first second)
         → IsTrue (is_before second third) → IsTrue (is_before first third) }

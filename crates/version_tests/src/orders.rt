@@ -3,7 +3,7 @@
 mod pairs;
 
 use rocks_text::Name;
-use rocks_version::{RockKey, Version, VersionFault, before, compare, rank};
+use rocks_version::{RockKey, Version, VersionFault, before, compare, listing, rank};
 use std::alloc::Global;
 use std::cmp::Ordering;
 use std::test::Fail;
@@ -117,7 +117,12 @@ fn key(alloc: Global, name: &str, version: &str) -> Option<RockKey> {
 // Whether the first is listed before the second, and not the other way round.
 fn is_before(alloc: Global, first: (&str, &str), second: (&str, &str)) -> bool {
     match (key(alloc, first.0, first.1), key(alloc, second.0, second.1)) {
-        (Some(left), Some(right)) => before(&left, &right) && !before(&right, &left),
+        (Some(left), Some(right)) => {
+            before(&left, &right)
+                && !before(&right, &left)
+                && listing(&left, &right) == Ordering::Less
+                && listing(&right, &left) == Ordering::Greater
+        }
         _ => false,
     }
 }

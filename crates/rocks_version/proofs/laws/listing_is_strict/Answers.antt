@@ -1,4 +1,4 @@
-use Rattle.rocks_version.proofs.OrderLaws.{listing_irreflexive, listing_transitive, listing_asymmetric, listing_connected}
+use Rattle.rocks_version.proofs.OrderLaws.{is_before_is, listing_irreflexive, listing_transitive, listing_asymmetric, listing_connected}
 use Rattle.rocks_version.proofs.laws.listing_is_strict.Goals as goal
 
 pub returns-clause-irreflexive : goal.returns-clause-irreflexive
@@ -12,3 +12,6 @@ returns-clause-connected c = listing_connected
 
 pub returns-clause-asymmetric : goal.returns-clause-asymmetric
 returns-clause-asymmetric c = listing_asymmetric
+
+pub returns-clause-compared : goal.returns-clause-compared
+returns-clause-compared c = is_before_is
