@@ -8,39 +8,84 @@ const READ: &[(&str, &str)] = &[
     ("lua", "lua"),
     (" \tlua\t ", "lua"),
     ("Lua-CJSON", "lua-cjson"),
+    ("9p", "9p"),
+    ("manifests", "manifests"),
+    ("lua5.1", "lua5.1"),
     ("lua >= 5.1, < 5.5", "lua >= 5.1, < 5.5"),
     ("lua>=5.1<5.5", "lua >= 5.1, < 5.5"),
+    ("a>1<2", "a > 1, < 2"),
     ("lua ~> 5.1", "lua ~> 5.1"),
+    ("lua~>5.1", "lua ~> 5.1"),
     ("lua = 5.1", "lua == 5.1"),
     ("lua == 5.1", "lua == 5.1"),
     ("lua 5.1", "lua == 5.1"),
     ("lua 5.1 5.2", "lua == 5.1, == 5.2"),
+    ("lua 5.1,5.2", "lua == 5.1, == 5.2"),
+    ("lua ~= 5.1", "lua ~= 5.1"),
+    ("lua != 5.1", "lua ~= 5.1"),
     ("lua ~= 5.1 != 5.2", "lua ~= 5.1, ~= 5.2"),
+    ("lua < 5.1", "lua < 5.1"),
+    ("lua > 5.1", "lua > 5.1"),
+    ("lua <= 5.1", "lua <= 5.1"),
+    ("lua >= 5.1", "lua >= 5.1"),
+    ("lua\t>\t5.1", "lua > 5.1"),
     ("lua <=\t5.1-1,,\t,>5.0,", "lua <= 5.1-1, > 5.0"),
+    ("lua > 5.1 ,, ,", "lua > 5.1"),
+    ("lua > 1.0-1 < 1.0-2", "lua > 1.0-1, < 1.0-2"),
     ("a.b_c-d > scm-1 , ", "a.b_c-d > scm-1"),
+    ("lua > RC_1-2", "lua > RC_1-2"),
+    (
+        "lua > 1234567890.234567890.234567890.234567890",
+        "lua > 1234567890.234567890.234567890.234567890",
+    ),
+    ("lua > 999999999999999999", "lua > 999999999999999999"),
 ];
 
 const BAD_OPERATOR: &[(&str, u32)] = &[
     ("lua ! 5.1", 4),
+    ("lua!5.1", 3),
     ("lua => 5.1", 4),
+    ("lua => 5", 4),
+    ("lua ==> 5.1", 4),
+    ("lua === 5.1", 4),
     ("lua >= 5.1, <> 5.5", 12),
+    ("lua >= 5.1 ~ 5.5", 11),
+    ("lua =>", 4),
 ];
 
 const BAD: &[(&str, u32)] = &[
     ("", 0),
     ("  ", 2),
+    ("\n", 0),
     ("-lua", 0),
+    ("_lua", 0),
+    (".lua", 0),
     (" manifest", 1),
+    ("Manifest >= 1", 0),
+    (
+        "lua45678901234567890123456789012345678901234567890123456789012",
+        0,
+    ),
+    (">= 5.1", 0),
     ("lua,", 3),
     ("lua , >= 5.1", 4),
     ("lua=", 4),
     ("lua >=", 6),
     ("lua >= ", 7),
+    ("lua >= ,", 7),
     ("lua >= < 5.1", 7),
     ("lua >= 5.1, /", 12),
+    ("lua >= 5.1;", 10),
     ("lua >= -5.1", 7),
     ("lua >= 1234567890123456789", 7),
+    ("lua >= 5-1234567890123456789", 9),
+    ("lua > 1, >= 1.1234567890123456789", 14),
+    ("lua >= 1234567890.234567890.234567890.2345678901", 47),
+    ("lua >= 5.1 @ 5.2", 11),
+    ("lua @5.1", 4),
     ("lua/x", 3),
+    ("lua\n>= 5.1", 3),
+    ("lu\u{e9}", 2),
 ];
 
 fn is_written(alloc: Global, text: &str, written: &str) -> bool {
@@ -114,4 +159,20 @@ fn limits_are_kept(rt: HostRuntime) {
         Some(999)
     );
     assert_eq!(rt; repeated_place(rt.alloc(), "", " ", 1000, "/"), Some(1000));
+}
+
+fn is_copied(alloc: Global, text: &str) -> Option<bool> {
+    let dependency = Dependency::read(alloc, text).ok()?;
+    let copied = dependency.copy(alloc).ok()?;
+    let first = dependency.constraints().first()?;
+    Some(
+        copied.name() == dependency.name()
+            && copied.constraints() == dependency.constraints()
+            && first.copy(alloc).ok()? == *first,
+    )
+}
+
+#[test]
+fn copies_are_equal(rt: HostRuntime) {
+    assert_eq!(rt; is_copied(rt.alloc(), "lua >= 5.1, < 5.5"), Some(true));
 }
