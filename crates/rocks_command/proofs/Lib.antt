@@ -1,0 +1,3 @@
+mod FromWords
+mod Rooting
+mod WordLemmas
