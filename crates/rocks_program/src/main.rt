@@ -2,7 +2,7 @@
 #![tactic(auto)]
 
 ghost use Rattle.std.specs.Prelude.{◌≡◌, ◌⊎◌, map, IsErr, string_bytes};
-ghost use Rattle.rocks_session.specs.Words.{command_of};
+ghost use Rattle.rocks_command.specs.Words.{command_of};
 ghost use Rattle.rocks_program.specs.Faults.{status_without_words};
 
 mod status_line;

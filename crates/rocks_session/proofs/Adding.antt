@@ -19,9 +19,9 @@ use Rattle.rocks_session.specs.declared.reply.Refusal.TheVariants.{Provided, NoR
 use Rattle.rocks_session.specs.declared.reply.Reply.{Reply}
 use Rattle.rocks_session.specs.declared.take.Offer.TheVariants as offers
 use Rattle.rocks_session.specs.declared.take.Staged.{Staged}
-use Rattle.rocks_session.specs.declared.version.RockKey.{RockKey}
-use Rattle.rocks_session.specs.declared.words.Command.{Command}
-use Rattle.rocks_session.specs.declared.words.Command.TheVariants.{Add}
+use Rattle.rocks_version.specs.declared.key.RockKey.{RockKey}
+use Rattle.rocks_command.specs.declared.command.Command.{Command}
+use Rattle.rocks_command.specs.declared.command.Command.TheVariants.{Add}
 use Rattle.rocks_session.proofs.Asking.{Stays}
 use Rattle.rocks_session.proofs.Installed.{not_the_text, only_added}
 use Rattle.rocks_session.proofs.Writing.{no_tick}

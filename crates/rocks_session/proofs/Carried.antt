@@ -1,25 +1,24 @@
 -- From what the parts of a run leave to what the run leaves.
-use Rattle.std.proofs.Common.{◌≡◌, ◌+◌, ℕ, List, ◌++◌, Option, None, Some, IfSome, Result, Ok, Err, refl, sym, ap, ◌∙◌, subst, take, length, arith, is_some, true, false}
+use Rattle.std.proofs.Common.{◌≡◌, ◌≤◌, ◌+◌, ◌⊎◌, inl, inr, ℕ, List, ◌++◌, Option, None, Some, IfSome, Result, Ok, Err, refl, sym, ap, ◌∙◌, subst, take, length, arith, is_some, true, false}
 use Rattle.std.proofs.lemmas.List.{append-nil, take_all}
 use Rattle.rocks_text.specs.Files.{Files}
-use Rattle.rocks_outside.specs.Device.{DeviceState, SaysOnly, Says, RisesByOneWhereTold, TellsTheSame}
+use Rattle.rocks_outside.specs.Device.{DeviceState, SaysOnly, Says, Ticks, RisesByOneWhereTold, TellsTheSame}
 use Rattle.rocks_outside.specs.Told.{WhereTold}
 use Rattle.rocks_outside.specs.declared.fault.DeviceError.{DeviceError}
 use Rattle.rocks_outside.specs.declared.fault.DeviceError.TheVariants as device_error
 use Rattle.tree_model.specs.Rock.{Rock}
 use Rattle.tree_model.specs.Tree.{tree_of}
-use Rattle.rocks_session.specs.Execute.{CarriesOut, IsEval, IsLeft}
+use Rattle.rocks_session.specs.Execute.{CarriesOut, IsReadOnly, IsLeft}
 use Rattle.rocks_session.specs.Opened.{Opens, IsTreeOf, IsOpenAs}
 use Rattle.rocks_session.specs.Step.{Outcome, IsStep, ticks}
-use Rattle.rocks_session.specs.Run.{Runs, IsUntouched, SaysAtMost, status_of}
+use Rattle.rocks_session.specs.Run.{Runs, IsUntouched, OnlySays, SaysAtMost, status_of}
 use Rattle.rocks_session.specs.declared.reply.Reply.{Reply}
 use Rattle.rocks_session.specs.declared.reply.Refusal.{Refusal}
 use Rattle.rocks_session.specs.declared.status.Status.{Status}
 use Rattle.rocks_session.specs.declared.status.Status.TheVariants.{Done, Refused}
-use Rattle.rocks_session.specs.declared.version.RockKey.{RockKey}
-use Rattle.rocks_session.specs.declared.words.Command.{Command}
-use Rattle.rocks_session.specs.declared.words.Command.TheVariants.{Eval}
-use Rattle.rocks_session.specs.declared.fault.WordsFault.{WordsFault}
+use Rattle.rocks_version.specs.declared.key.RockKey.{RockKey}
+use Rattle.rocks_command.specs.declared.command.Command.{Command}
+use Rattle.rocks_command.specs.declared.fault.WordsFault.{WordsFault}
 
 abbrev Read : Type 0
 Read = Result Command WordsFault
@@ -116,12 +115,38 @@ module _ (command : Command) (servers : Held) (reply : Reply) (keys keys_now : L
           let spent = subst (λ f. IfSome f (λ _. exec.clock ≡ mid.clock + n)) (sym same_files) worked in
           omega (arith, spent, up, left.clock)
 
--- after `eval` the files are as they were
-pub files_kept : (read : Read) (command : Command) (path : List ℕ) (keys keys_now : List RockKey) (first mid exec now : DeviceState) → IsUntouched first mid → (IsEval command → IsLeft keys keys_now mid exec) → now.files ≡ exec.files → read ≡ Ok command → read ≡ Ok (Eval path) → now.files ≡ first.files
-files_kept read command path keys keys_now first mid exec now left untouched same is evaluates =
-    let both : Ok command ≡ Ok (Eval path) = sym is ∙ evaluates in
-    let command_is : command ≡ Eval path = cc in
-    same ∙ (untouched (subst IsEval (sym command_is) tt)).files ∙ left.files
+-- a call that ticks or doesn't, by its answer
+ticks_once : {T : Type 0} (result : Result T DeviceError) (files : Option Files) (before now : ℕ) → Ticks result files before now → (before ≤ now) × (now ≤ before + 1)
+ticks_once (Ok done) None before now (inl rises) = (omega arith, omega arith)
+ticks_once (Ok done) None before now (inr stands) = (omega arith, omega arith)
+ticks_once (Ok done) (Some files) before now ticks = (omega arith, omega arith)
+ticks_once (Err device_error.Failed) None before now (inl rises) = (omega arith, omega arith)
+ticks_once (Err device_error.Failed) None before now (inr stands) = (omega arith, omega arith)
+ticks_once (Err device_error.Failed) (Some files) before now ticks = (omega arith, omega arith)
+ticks_once (Err device_error.NoMemory) files before now ticks = (omega arith, omega arith)
+
+-- a device that was opened alone
+pub only_opened : (first mid : DeviceState) → IsUntouched first mid → OnlySays first mid
+only_opened first mid left = record { files = left.files; clock_kept = omega (arith, left.clock); clock_once = omega (arith, left.clock) }
+
+module _ (read : Read) (command other : Command) (keys keys_now : List RockKey) (first mid exec : DeviceState)
+    (left : IsUntouched first mid) (untouched : IsReadOnly command → IsLeft keys keys_now mid exec)
+    (is : read ≡ Ok command) (says_so : read ≡ Ok other) (reads : IsReadOnly other) where
+  still : IsLeft keys keys_now mid exec
+  still =
+      let both : Ok command ≡ Ok other = sym is ∙ says_so in
+      let commands : command ≡ other = cc in
+      untouched (subst IsReadOnly (sym commands) reads)
+
+  -- after a command that only reads and that broke off
+  pub only_read : OnlySays first exec
+  only_read = record { files = still.files ∙ left.files; clock_kept = omega (arith, still.clock, left.clock); clock_once = omega (arith, still.clock, left.clock) }
+
+  -- after one whose reply was to be said
+  pub only_said : {T : Type 0} (result : Result T DeviceError) (bytes : List ℕ) (now : DeviceState) → SaysOnly result bytes exec now → OnlySays first now
+  only_said result bytes now says =
+      let once = ticks_once result exec.files exec.clock now.clock says.clock in
+      record { files = says.files ∙ still.files ∙ left.files; clock_kept = omega (arith, still.clock, left.clock, once.0); clock_once = omega (arith, still.clock, left.clock, once.1) }
 
 pub refused_ends : (refusal : Option Refusal) → is_some refusal ≡ true → Refused ≡ status_of refusal
 refused_ends None e = cc

@@ -20,8 +20,8 @@ use Rattle.rocks_session.specs.declared.fault.SessionFault.{SessionFault}
 use Rattle.rocks_session.specs.declared.reply.Refusal.{Refusal}
 use Rattle.rocks_session.specs.declared.reply.Reply.{Reply}
 use Rattle.rocks_session.specs.declared.search.Found.TheVariants.{TooLong}
-use Rattle.rocks_session.specs.declared.version.RockKey.{RockKey}
-use Rattle.rocks_session.specs.declared.words.Command.TheVariants.{Eval}
+use Rattle.rocks_version.specs.declared.key.RockKey.{RockKey}
+use Rattle.rocks_command.specs.declared.command.Command.TheVariants.{Eval}
 use Rattle.rocks_session.proofs.Adding.{answered, broken_off}
 use Rattle.rocks_session.proofs.Asking.{stays_asked}
 use Rattle.rocks_session.proofs.Writing.{no_tick}

@@ -29,7 +29,7 @@ use Rattle.rocks_session.specs.Unpacked.{unpacked_folder, unpacked_path, unpacke
 use Rattle.rocks_session.specs.Staged.{file_of, placed, AreTaken, IsNotTaken, IsFolderOffer, IsModule, StandFor}
 use Rattle.rocks_session.specs.declared.take.Offer.TheVariants.{Rock as Ready}
 use Rattle.rocks_session.specs.declared.take.Staged.{Staged}
-use Rattle.rocks_session.specs.declared.version.RockKey.{RockKey}
+use Rattle.rocks_version.specs.declared.key.RockKey.{RockKey}
 
 module _ (key : RockKey) (spec : List ℕ) (server : ℕ) where
   -- before the first file

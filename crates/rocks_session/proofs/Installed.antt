@@ -19,8 +19,8 @@ use Rattle.rocks_session.specs.Unpacked.{unpacked}
 use Rattle.rocks_session.specs.declared.reply.Reply.{Reply}
 use Rattle.rocks_session.specs.declared.take.Staged.{Staged}
 use Rattle.rocks_session.specs.declared.take.Offer.TheVariants.{Rock as Ready}
-use Rattle.rocks_session.specs.declared.version.RockKey.{RockKey}
-use Rattle.rocks_session.specs.declared.words.Command.TheVariants.{Add}
+use Rattle.rocks_version.specs.declared.key.RockKey.{RockKey}
+use Rattle.rocks_command.specs.declared.command.Command.TheVariants.{Add}
 use Rattle.rocks_session.proofs.Put.{tree_of_one}
 
 -- `add` has one outcome

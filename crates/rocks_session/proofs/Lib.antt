@@ -1,10 +1,10 @@
 mod Adding
 mod Asking
 mod Carried
+mod Comparing
 mod Complete
 mod Evaluating
 mod Folder
-mod FromWords
 mod Installed
 mod Listed
 mod Listing

@@ -18,7 +18,7 @@ use Rattle.rocks_session.specs.Staged.{IsOffer, FolderOffers}
 use Rattle.rocks_session.specs.declared.search.Found.TheVariants.{TooLong, At}
 use Rattle.rocks_session.specs.declared.take.Offer.{Offer}
 use Rattle.rocks_session.specs.declared.take.Offer.TheVariants.{Absent, NotServed, Rock as Ready}
-use Rattle.rocks_session.specs.declared.version.RockKey.{RockKey}
+use Rattle.rocks_version.specs.declared.key.RockKey.{RockKey}
 
 below_itself : (folder path : List ℕ) → below folder (folder ++ 47 ∷ path) ≡ Some path
 below_itself folder path =

@@ -1,18 +1,18 @@
 -- Texts made of names and versions are parts of paths.
-use Rattle.std.proofs.Common.{◌≡◌, ◌≤◌, ◌<◌, ◌+◌, ℕ, zero, suc, Bool, true, false, ◌||◌, not, IsTrue, List, [], ◌∷◌, ◌++◌, length, refl, sym, ap, ◌∙◌, subst, arith, codes, slice_index, ◌==◌, nat_le, length-append, length-drop, take, drop, get_or, lit≤}
+use Rattle.std.proofs.Common.{◌≡◌, ◌≤◌, ◌+◌, ℕ, Bool, true, false, ◌||◌, not, IsTrue, List, [], ◌∷◌, ◌++◌, length, refl, sym, ap, ◌∙◌, subst, arith, codes, slice_index, ◌==◌, nat_le, length-append, append_assoc, lit≤}
 use Rattle.std.proofs.lemmas.Bool.Decides.{nat_tests}
 use Rattle.std.proofs.lemmas.List.Folds.{list_all-append}
-use Rattle.std.proofs.lemmas.List.Sums.{split_at_first, passes_at_first}
 use Rattle.std.proofs.lemmas.List.Splits.{slice_split_at, slice_split_none}
 use Rattle.std.proofs.lemmas.List.Elements.{All-nil, All-cons}
-use Rattle.std.specs.List.{list_all, All, before_first, after_first, position_or_len}
-use Rattle.std.specs.Char.{is_ascii_alphanumeric, is_ascii_digit}
+use Rattle.std.specs.List.{list_all, All}
+use Rattle.std.specs.Char.{is_ascii_alphanumeric}
 use Rattle.std.specs.Str.{bytes_eq}
 use Rattle.rocks_text.specs.Texts.{is_name_byte, is_name, is_part_byte, is_part, parts, is_file_path, is_tree_path}
 use Rattle.tree_model.specs.Tree.{rockspec_name, rockspec_path}
 use Rattle.tree_paths.proofs.PlacePaths.{conj, both}
 use Rattle.rocks_session.specs.Unpacked.{unpacked_folder, unpacked_rockspec}
-use Rattle.rocks_session.specs.Version.{is_dash, is_body_byte, is_rock_version}
+use Rattle.rocks_version.specs.Texts.{is_version, is_version_byte, has_form, has_short_numbers}
+use Rattle.rocks_version.proofs.Parts.{form_is}
 
 -- a byte of a name, of a version or of what joins them
 abbrev pub is_word_byte : ℕ → Bool
@@ -34,14 +34,8 @@ weaker p q implies (b ∷ text) all =
 name_byte : (b : ℕ) → is_name_byte b ≡ true → is_word_byte b ≡ true
 name_byte b is = grind (arith, nat_tests)
 
-body_byte : (b : ℕ) → is_body_byte b ≡ true → is_word_byte b ≡ true
-body_byte b is = grind (arith, nat_tests)
-
-digit_byte : (b : ℕ) → is_ascii_digit b ≡ true → is_word_byte b ≡ true
-digit_byte b is = grind (arith, nat_tests)
-
-dash_byte : (b : ℕ) → is_dash b ≡ true → is_word_byte b ≡ true
-dash_byte b is = grind (arith, nat_tests)
+version_byte : (b : ℕ) → is_version_byte b ≡ true → is_word_byte b ≡ true
+version_byte b is = grind (arith, nat_tests)
 
 part_byte : (b : ℕ) → is_word_byte b ≡ true → is_part_byte b ≡ true
 part_byte b is = grind (arith, nat_tests)
@@ -64,41 +58,22 @@ name_word text is =
       bytes = weaker is_name_byte is_word_byte name_byte text h3.1;
     }
 
--- a list that two parts and what stands between them make
-all_of_parts : (q : ℕ → Bool) (front back : List ℕ) (between : ℕ) → list_all q front ≡ true → q between ≡ true → list_all q back ≡ true → list_all q (front ++ between ∷ back) ≡ true
-all_of_parts q front back between f m b = list_all-append q front (between ∷ back) ∙ both _ _ f (both _ _ m b)
+some_first : (text : List ℕ) → is_ascii_alphanumeric (slice_index text 0) ≡ true → 1 ≤ length text
+some_first [] first = cc
+some_first (b ∷ text) first = omega arith
 
-nonempty_drop : (n : ℕ) (text : List ℕ) → 1 ≤ length (drop n text) → n < length text
-nonempty_drop n text some = omega (arith, length-drop n text)
-
-first_of_take : (n : ℕ) (text : List ℕ) → 1 ≤ length (take n text) → slice_index (take n text) 0 ≡ slice_index text 0
-first_of_take zero text some = absurd (omega arith)
-first_of_take (suc n) [] some = refl
-first_of_take (suc n) (b ∷ text) some = refl
-
-pub version_word : (text : List ℕ) → IsTrue (is_rock_version text) → IsWord 40 text
+pub version_word : (text : List ℕ) → IsTrue (is_version text) → IsWord 40 text
+unfolding is_version
 version_word text is =
-    let h3 = conj _ _ is in
-    let h2 = conj _ _ h3.0 in
-    let h1 = conj _ _ h2.0 in
-    let body = conj _ _ h1.1 in
-    let body_first = conj _ _ body.0 in
-    let revision = conj _ _ h2.1 in
-    let few : nat_le (length text) 40 ≡ true = h1.0 in
-    let body_some : nat_le 1 (length (before_first is_dash text)) ≡ true = body_first.0 in
-    let revision_some : nat_le 1 (length (after_first is_dash text)) ≡ true = revision.0 in
-    let some_body : 1 ≤ length (before_first is_dash text) = grind (arith, nat_tests) in
-    let some_revision : 1 ≤ length (after_first is_dash text) = grind (arith, nat_tests) in
-    let place = position_or_len is_dash text in
-    let inside : place + 1 < length text = nonempty_drop (place + 1) text some_revision in
-    let parted = split_at_first is_dash text 45 (omega arith) in
+    let form = conj (has_form text) (has_short_numbers text) is in
+    let parts = conj _ _ (sym (form_is text) ∙ form.0) in
+    let bytes_few = conj _ _ parts.0 in
+    let few : nat_le (length text) 40 ≡ true = bytes_few.1 in
     record {
-      some = omega arith;
+      some = some_first text parts.1;
       few = grind (arith, nat_tests);
-      first = sym (ap is_ascii_alphanumeric (first_of_take place text some_body)) ∙ body_first.1;
-      bytes = ap (list_all is_word_byte) parted
-          ∙ all_of_parts is_word_byte (before_first is_dash text) (after_first is_dash text) (get_or text place 45)
-          (weaker is_body_byte is_word_byte body_byte (before_first is_dash text) body.1) (dash_byte _ (passes_at_first is_dash text 45 (omega arith))) (weaker is_ascii_digit is_word_byte digit_byte (after_first is_dash text) revision.1);
+      first = parts.1;
+      bytes = weaker is_version_byte is_word_byte version_byte text bytes_few.0;
     }
 
 -- a word and more such bytes are a word
@@ -159,8 +134,15 @@ module _ (name version : List ℕ) (is_named : IsWord 60 name) (is_versioned : I
       both _ _ few (ap (list_all (is_part 150)) (parts_word 110 folder file folder_word ∙ ap (λ (more : List (List ℕ)). folder ∷ more) (parts_one 110 file rockspec_word))
       ∙ both _ _ (word_part 110 150 folder folder_word (lit≤ tt)) (both _ _ (word_part 110 150 file rockspec_word (lit≤ tt)) refl))
 
-  pub rockspec_in_tree : IsTrue (is_tree_path (rockspec_path name version))
-  rockspec_in_tree =
+  -- the folders of a rockspec, one after the other
+  nested : rockspec_path name version ≡ codes "lib/luarocks/rocks-5.4/" ++ (name ++ 47 ∷ (version ++ 47 ∷ rockspec_name name version))
+  nested =
+      let file = rockspec_name name version in
+      ap (λ (l : List ℕ). codes "lib/luarocks/rocks-5.4/" ++ l)
+      (append_assoc name (47 ∷ (version ++ 47 ∷ [])) file ∙ ap (λ (l : List ℕ). name ++ 47 ∷ l) (append_assoc version (47 ∷ []) file))
+
+  nested_in_tree : IsTrue (is_tree_path (codes "lib/luarocks/rocks-5.4/" ++ (name ++ 47 ∷ (version ++ 47 ∷ rockspec_name name version))))
+  nested_in_tree =
       let file = rockspec_name name version in
       let rest = version ++ 47 ∷ file in
       let few : nat_le (length (codes "lib/luarocks/rocks-5.4/" ++ (name ++ 47 ∷ rest))) 1200 ≡ true =
@@ -168,6 +150,9 @@ module _ (name version : List ℕ) (is_named : IsWord 60 name) (is_versioned : I
       both _ _ few (ap (λ (more : List (List ℕ)). list_all (is_part 255) (codes "lib" ∷ codes "luarocks" ∷ codes "rocks-5.4" ∷ more))
       (parts_word 60 name rest is_named ∙ ap (λ (more : List (List ℕ)). name ∷ more) (parts_word 40 version file is_versioned ∙ ap (λ (more : List (List ℕ)). version ∷ more) (parts_one 110 file rockspec_word)))
       ∙ both _ _ (word_part 60 255 name is_named (lit≤ tt)) (both _ _ (word_part 40 255 version is_versioned (lit≤ tt)) (both _ _ (word_part 110 255 file rockspec_word (lit≤ tt)) refl)))
+
+  pub rockspec_in_tree : IsTrue (is_tree_path (rockspec_path name version))
+  rockspec_in_tree = subst (λ (path : List ℕ). IsTrue (is_tree_path path)) (sym nested) nested_in_tree
 
 -- what stands below a folder `lua` is a path
 pub behind_lua : (path rest : List ℕ) → IsTrue (is_file_path path) → path ≡ codes "lua/" ++ rest → IsTrue (is_file_path rest)

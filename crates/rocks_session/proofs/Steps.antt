@@ -4,12 +4,12 @@ use Rattle.std.proofs.lemmas.Bool.Decides.{nat_tests}
 use Rattle.lua_text.proofs.One.{one_outcome, some_outcome}
 use Rattle.rocks_text.specs.Files.{Files}
 use Rattle.tree_model.specs.Rock.{Rock}
-use Rattle.rocks_session.specs.Step.{Outcome, IsStep, Evaluates, adds, refused, told, too_long}
+use Rattle.rocks_session.specs.Step.{Outcome, IsStep, Evaluates, adds, compared, refused, told, too_long}
 use Rattle.rocks_session.specs.Unpacked.{earliest_at}
 use Rattle.rocks_session.specs.declared.eval.TheConstants.{LONGEST_TEXT}
 use Rattle.rocks_session.specs.declared.reply.Refusal.TheVariants.{NoFile}
-use Rattle.rocks_session.specs.declared.words.Command.{Command}
-use Rattle.rocks_session.specs.declared.words.Command.TheVariants.{Add, Eval}
+use Rattle.rocks_command.specs.declared.command.Command.{Command}
+use Rattle.rocks_command.specs.declared.command.Command.TheVariants.{Add, Compare, Eval}
 
 one_answer : (set : List Rock) (path : List ℕ) (held : Option (List ℕ)) (one other : Outcome) → Evaluates set path held one → Evaluates set path held other → one ≡ other
 one_answer set path None one other first second = first ∙ sym second
@@ -22,6 +22,7 @@ one_answer set path (Some text) one other first second =
 pub one_step : (servers : List Files) (set : List Rock) (command : Command) (one other : Outcome) → IsStep servers set command one → IsStep servers set command other → one ≡ other
 one_step servers set (Add key) one other first second = first ∙ sym second
 one_step servers set (Eval path) one other first second = one_answer set path (earliest_at path servers) one other first second
+one_step servers set (Compare left right) one other first second = first ∙ sym second
 
 short_or_long : (text : List ℕ) → (LONGEST_TEXT < length text) ⊎ (length text ≤ LONGEST_TEXT)
 short_or_long text =
@@ -39,3 +40,4 @@ some_answer set path (Some text) =
 pub some_step : (servers : List Files) (set : List Rock) (command : Command) → (outcome : Outcome) × IsStep servers set command outcome
 some_step servers set (Add key) = (adds servers set key, refl)
 some_step servers set (Eval path) = some_answer set path (earliest_at path servers)
+some_step servers set (Compare left right) = (compared set left right, refl)

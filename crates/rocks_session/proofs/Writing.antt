@@ -15,7 +15,7 @@ use Rattle.rocks_session.specs.Step.{Outcome, ticks, ticks_for}
 use Rattle.rocks_session.specs.declared.fault.SessionFault.{SessionFault}
 use Rattle.rocks_session.specs.declared.fault.SessionFault.TheVariants as session_fault
 use Rattle.rocks_session.specs.declared.take.Staged.{Staged}
-use Rattle.rocks_session.specs.declared.version.RockKey.{RockKey}
+use Rattle.rocks_version.specs.declared.key.RockKey.{RockKey}
 
 rises_one : (before now : ℕ) → RisesByOne before now → before ≤ now
 rises_one before now (inl up) = omega (arith, up)

@@ -11,9 +11,9 @@ use Rattle.rocks_session.specs.Step.{Outcome, IsStep, IsOutcomeOf, ticks}
 use Rattle.rocks_session.specs.declared.fault.SessionFault.{SessionFault}
 use Rattle.rocks_session.specs.declared.fault.SessionFault.TheVariants.{ShelfFault}
 use Rattle.rocks_session.specs.declared.reply.Reply.{Reply}
-use Rattle.rocks_session.specs.declared.version.RockKey.{RockKey}
-use Rattle.rocks_session.specs.declared.words.Command.{Command}
-use Rattle.rocks_session.specs.declared.words.Command.TheVariants.{Add, Eval}
+use Rattle.rocks_version.specs.declared.key.RockKey.{RockKey}
+use Rattle.rocks_command.specs.declared.command.Command.{Command}
+use Rattle.rocks_command.specs.declared.command.Command.TheVariants.{Add, Compare, Eval}
 
 -- An outcome of the command over a set: the model's only one where the shelf tells what the servers hold, and one that
 -- the command can have whatever they hold.
@@ -55,9 +55,10 @@ pub record Keeps (result : Result Reply SessionFault) (before now : DeviceState)
   pub cause : IfErr result (HasCause before.faults now.faults shelf_before.faults shelf_now.faults)
 
 -- a command that keeps tree and device, whatever it answers
-abbrev pub IsEval : Command → Type 0
-IsEval (Add key) = ⊥
-IsEval (Eval path) = Unit {0}
+abbrev pub IsReadOnly : Command → Type 0
+IsReadOnly (Add key) = ⊥
+IsReadOnly (Eval path) = Unit {0}
+IsReadOnly (Compare left right) = Unit {0}
 
 -- a command over a tree that was opened, a device and a shelf
 pub record Executes (command : Command) (result : Result Reply SessionFault) (keys_before keys_now : List RockKey) (before now : DeviceState) (shelf_before shelf_now : ShelfState) : Type 0 where
@@ -68,6 +69,6 @@ pub record Executes (command : Command) (result : Result Reply SessionFault) (ke
   pub refused : IfOk result (λ reply. IsSome reply.refusal → IsLeft keys_before keys_now before now)
   -- nor does a command that a shelf's fault broke off
   pub broken_off : IsErrOf result ShelfFault → IsLeft keys_before keys_now before now
-  -- `eval` changes nothing, whatever comes of it
-  pub untouched : IsEval command → IsLeft keys_before keys_now before now
+  -- a command that only reads changes nothing, whatever comes of it
+  pub untouched : IsReadOnly command → IsLeft keys_before keys_now before now
   pub keeps : Keeps result before now shelf_before shelf_now

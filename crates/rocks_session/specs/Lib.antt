@@ -13,5 +13,3 @@ pub mod Search
 pub mod Staged
 pub mod Step
 pub mod Unpacked
-pub mod Version
-pub mod Words

@@ -1,5 +1,5 @@
 -- What a run leaves. (This project's own.)
-use Rattle.std.specs.Prelude.{ℕ, ◌≡◌, ◌+◌, ◌⊎◌, List, ◌++◌, take, Option, None, Some, IfSome, Result, Ok}
+use Rattle.std.specs.Prelude.{ℕ, ◌≡◌, ◌≤◌, ◌+◌, ◌⊎◌, List, ◌++◌, take, Option, None, Some, IfSome, Result, Ok}
 use Rattle.rocks_text.specs.Files.{Files}
 use Rattle.rocks_outside.specs.Device.{DeviceState}
 use Rattle.rocks_outside.specs.Told.{WhereTold}
@@ -11,8 +11,8 @@ use Rattle.rocks_session.specs.Step.{Outcome, IsStep, ticks}
 use Rattle.rocks_session.specs.declared.reply.Refusal.{Refusal}
 use Rattle.rocks_session.specs.declared.status.Status.{Status}
 use Rattle.rocks_session.specs.declared.status.Status.TheVariants.{Done, Refused, BadWords, NoMemory, DeviceFault, ShelfFault, Damaged}
-use Rattle.rocks_session.specs.declared.words.Command.{Command}
-use Rattle.rocks_session.specs.declared.fault.WordsFault.{WordsFault}
+use Rattle.rocks_command.specs.declared.command.Command.{Command}
+use Rattle.rocks_command.specs.declared.fault.WordsFault.{WordsFault}
 
 abbrev pub status_of : Option Refusal → Status
 status_of None = Done
@@ -48,6 +48,12 @@ pub record IsUntouched (before now : DeviceState) : Type 0 where
   pub files : now.files ≡ before.files
   pub said : now.said ≡ before.said
   pub clock : now.clock ≡ before.clock
+
+-- the files are as they were, and of the calls that the clock counts there was one at most, the one that says the reply
+pub record OnlySays (before now : DeviceState) : Type 0 where
+  pub files : now.files ≡ before.files
+  pub clock_kept : before.clock ≤ now.clock
+  pub clock_once : now.clock ≤ before.clock + 1
 
 -- the exit code of the program
 abbrev pub code_of : Status → ℕ

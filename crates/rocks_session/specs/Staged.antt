@@ -22,7 +22,7 @@ use Rattle.rocks_session.specs.declared.take.Staged.{Staged}
 use Rattle.rocks_session.specs.declared.take.Folder.{Folder}
 use Rattle.rocks_session.specs.declared.take.Offer.{Offer}
 use Rattle.rocks_session.specs.declared.take.Offer.TheVariants.{Absent, NotServed, Rock as Ready}
-use Rattle.rocks_session.specs.declared.version.RockKey.{RockKey}
+use Rattle.rocks_version.specs.declared.key.RockKey.{RockKey}
 
 -- the path and the bytes of a staged file
 abbrev pub file_of : Staged → List ℕ × List ℕ

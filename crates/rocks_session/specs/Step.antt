@@ -1,6 +1,8 @@
 -- What a command does to a set of rocks, and what it replies. (This project's own.)
 use Rattle.std.specs.Prelude.{ℕ, ◌≡◌, ◌≢◌, ◌<◌, ◌≤◌, ◌==◌, ◌+◌, ◌-◌, ◌⊎◌, List, ◌∷◌, ◌++◌, length, codes, if◌then◌else◌, Option, None, Some, Result, Ok, Err}
 use Rattle.std.specs.Str.{bytes_eq}
+use Rattle.std.specs.declared.cmp.Ordering.{Ordering}
+use Rattle.std.specs.declared.cmp.Ordering.TheVariants.{Less, Equal, Greater}
 use Rattle.lua_lexer.specs.declared.fault.LexFault.TheVariants.{TooLong}
 use Rattle.lua_print.specs.Printed.{globals_text}
 use Rattle.lua_text.specs.Outcomes.{HasOutcome}
@@ -9,13 +11,14 @@ use Rattle.lua_text.specs.declared.fault.EvalFailed.{EvalFailed}
 use Rattle.lua_text.specs.declared.fault.EvalFailed.TheVariants.{Lex}
 use Rattle.lua_value.specs.Pairs.{Pairs}
 use Rattle.rocks_text.specs.Files.{Files}
+use Rattle.rocks_version.specs.Orders.{version_cmp}
 use Rattle.tree_model.specs.Rock.{Rock}
 use Rattle.tree_model.specs.Tree.{file_count}
 use Rattle.rocks_session.specs.Unpacked.{earliest_at, offering, is_whole_taken, unpacked}
 use Rattle.rocks_session.specs.declared.eval.TheConstants.{LONGEST_TEXT}
-use Rattle.rocks_session.specs.declared.version.RockKey.{RockKey}
-use Rattle.rocks_session.specs.declared.words.Command.{Command}
-use Rattle.rocks_session.specs.declared.words.Command.TheVariants.{Add, Eval}
+use Rattle.rocks_version.specs.declared.key.RockKey.{RockKey}
+use Rattle.rocks_command.specs.declared.command.Command.{Command}
+use Rattle.rocks_command.specs.declared.command.Command.TheVariants.{Add, Compare, Eval}
 use Rattle.rocks_session.specs.declared.reply.Refusal.{Refusal}
 use Rattle.rocks_session.specs.declared.reply.Refusal.TheVariants.{Provided, NoRock, NotServed, NoFile, Lua}
 
@@ -81,10 +84,25 @@ Evaluates set path (Some text) outcome =
     ((LONGEST_TEXT < length text) × (outcome ≡ refused set too_long))
     ⊎ ((length text ≤ LONGEST_TEXT) × ((read : Result Pairs EvalFailed) × HasOutcome text read × (outcome ≡ told set read)))
 
+-- the sign between two versions
+abbrev pub sign_of : Ordering → List ℕ
+sign_of Less = codes "<"
+sign_of Equal = codes "="
+sign_of Greater = codes ">"
+
+-- the lines of the reply to `compare`
+abbrev pub compared_text : (left right : List ℕ) → List ℕ
+compared_text left right = left ++ codes " " ++ sign_of (version_cmp left right) ++ codes " " ++ right ++ codes "\nok\n"
+
+-- the set is kept, and how two versions compare is told
+abbrev pub compared : List Rock → (left right : List ℕ) → Outcome
+compared set left right = record { set = set; refusal = None; text = compared_text left right }
+
 -- an outcome of one command over what the servers hold
 abbrev pub IsStep : List Files → List Rock → Command → Outcome → Type 0
 IsStep servers set (Add key) outcome = outcome ≡ adds servers set key
 IsStep servers set (Eval path) outcome = Evaluates set path (earliest_at path servers) outcome
+IsStep servers set (Compare left right) outcome = outcome ≡ compared set left right
 
 -- a refusal of `add` has the command's own values, and `Provided` comes for `lua` alone
 abbrev pub IsRefusalOf : RockKey → Refusal → Type 0
@@ -101,6 +119,7 @@ IsOutcomeOf (Add key) set outcome =
     ⊎ ((refusal : Refusal) × IsRefusalOf key refusal × (outcome ≡ refused set refusal))
 IsOutcomeOf (Eval path) set outcome =
     (outcome ≡ refused set (NoFile path)) ⊎ ((read : Result Pairs EvalFailed) × (outcome ≡ told set read))
+IsOutcomeOf (Compare left right) set outcome = outcome ≡ compared set left right
 
 -- how often a device's clock rises for files that are new: once for each, and once to make all of them durable
 abbrev pub ticks_for : ℕ → ℕ

@@ -4,6 +4,7 @@ ghost use Rattle.rocks_session.specs.Execute.{Executes};
 ghost use Rattle.rocks_session.specs.Opened.{IsOpenAs};
 
 use crate::add::add;
+use crate::compare::compare;
 use crate::eval::eval;
 use crate::{Command, Reply, SessionFault, Tree};
 use rocks_outside::{Device, Shelf};
@@ -12,9 +13,9 @@ use std::alloc::Global;
 /// Carries one command out on a tree that was opened, over the servers of a shelf. All files of a rock are read
 /// before the first one is written; then they are written, and synced.
 ///
-/// A refusal changes no file and not the tree, and neither does `eval`, whatever it answers. `DeviceFault` and
-/// `ShelfFault` come only where the device or the shelf failed in the call, and `NoMemory` where memory runs out. After
-/// `ShelfFault` all is as before; after the others the device is opened again.
+/// A refusal changes no file and not the tree, and neither do `eval` and `compare`, whatever they answer.
+/// `DeviceFault` and `ShelfFault` come only where the device or the shelf failed in the call, and `NoMemory` where
+/// memory runs out. After `ShelfFault` all is as before; after the others the device is opened again.
 pub fn execute<V: Device, F: Shelf>(
     alloc: Global,
     tree: &mut Tree,
@@ -29,5 +30,6 @@ pub fn execute<V: Device, F: Shelf>(
     match command {
         Command::Add(key) => add(alloc, tree, device, shelf, key),
         Command::Eval(path) => eval(alloc, shelf, path),
+        Command::Compare(left, right) => Ok(compare(alloc, left, right)?),
     }
 }

@@ -1,7 +1,8 @@
-//! One run of `rocks`: words to a command, a tree that is opened, the command carried out, and its reply said.
+//! One run of `rocks`: the command of its words, a tree that is opened, the command carried out, and its reply said.
 #![tactic(auto)]
 
 mod add;
+mod compare;
 mod eval;
 mod execution;
 mod fault;
@@ -13,15 +14,13 @@ mod session;
 mod status;
 mod take;
 mod tree;
-mod version;
-mod words;
 
 pub use execution::execute;
-pub use fault::{OpenFault, SessionFault, WordsFault};
+pub use fault::{OpenFault, SessionFault};
 pub use lua_text::EvalFailed;
 pub use reply::{Refusal, Reply};
+pub use rocks_command::{Command, RootWords, WordsFault, read_words, roots};
+pub use rocks_version::{RockKey, Version};
 pub use session::run;
 pub use status::Status;
 pub use tree::{Tree, open};
-pub use version::{RockKey, Version};
-pub use words::{Command, RootWords, read_words, roots};

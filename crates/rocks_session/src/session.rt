@@ -1,14 +1,19 @@
 ghost use Rattle.std.specs.Prelude.{◌≡◌, ◌⊎◌, List, map, IfSome, IsErr, Ok, Some, string_bytes};
 ghost use Rattle.rocks_outside.specs.Counts.{HasRisen};
+ghost use Rattle.rocks_version.specs.declared.key.RockKey.{RockKey};
 ghost use Rattle.tree_model.specs.Rock.{Rock};
+ghost use Rattle.rocks_session.specs.Execute.{Executes, IsReadOnly};
 ghost use Rattle.rocks_session.specs.Faults.{IsLeastPath};
-ghost use Rattle.rocks_session.specs.Opened.{Opens};
-ghost use Rattle.rocks_session.specs.Run.{HasRun, HasRunUnless, Runs, IsUntouched, SaysAtMost};
-ghost use Rattle.rocks_session.specs.Words.{command_of};
+ghost use Rattle.rocks_session.specs.Opened.{IsOpenAs, Opens};
+ghost use Rattle.rocks_session.specs.Run.{HasRun, HasRunUnless, Runs};
+ghost use Rattle.rocks_session.specs.Run.{IsUntouched, OnlySays, SaysAtMost};
+ghost use Rattle.rocks_command.specs.Words.{command_of};
 
-use crate::{Command, OpenFault, SessionFault, Status, WordsFault, execute, open, read_words};
+use crate::{
+    Command, OpenFault, Reply, SessionFault, Status, Tree, WordsFault, execute, open, read_words,
+};
 use rocks_outside::{Device, DeviceError, Shelf, Source};
-use rocks_text::{FilePath, TreePath};
+use rocks_text::TreePath;
 use std::alloc::Global;
 
 /// A whole run: reads the words, opens the tree, carries the command out and says its reply with one call of `say`.
@@ -33,10 +38,10 @@ pub fn run<V: Device, F: Shelf, I: Source>(
     ensures opened { HasRun result → (set : List Rock) × Opens (V.state device.old).files set }
     ensures refused { result ≡ Status.Refused
         → (V.state device.new).files ≡ (V.state device.old).files }
-    // `eval` changes no file, whatever the status.
-    ensures evaluated { (path : FilePath)
-        → command_of (map string_bytes words.now) ≡ Ok (Command.Eval path)
-        → (V.state device.new).files ≡ (V.state device.old).files }
+    // A command that only reads changes no file, nor the clock but by the one call of `say`, whatever the status.
+    ensures read_only { (command : Command)
+        → command_of (map string_bytes words.now) ≡ Ok command → IsReadOnly command
+        → OnlySays (V.state device.old) (V.state device.new) }
 
     // Words that say a command, a tree that opens and objects that don't fail are enough, but for memory.
     ensures complete { (command : Command) (set : List Rock)
@@ -79,13 +84,13 @@ pub fn run<V: Device, F: Shelf, I: Source>(
         Err(WordsFault::NoMemory) => return Status::NoMemory,
         Err(_) => return Status::BadWords,
     };
-    let mut tree = match open(alloc, device) {
+    let tree = match open(alloc, device) {
         Ok(tree) => tree,
         Err(OpenFault::Damaged(path)) => return Status::Damaged { path },
         Err(OpenFault::DeviceFault) => return Status::DeviceFault,
         Err(OpenFault::NoMemory) => return Status::NoMemory,
     };
-    let reply = match execute(alloc, &mut tree, device, shelf, &command) {
+    let reply = match carry_out(alloc, tree, device, shelf, command) {
         Ok(reply) => reply,
         Err(SessionFault::DeviceFault) => return Status::DeviceFault,
         Err(SessionFault::ShelfFault) => return Status::ShelfFault,
@@ -97,4 +102,20 @@ pub fn run<V: Device, F: Shelf, I: Source>(
         Err(DeviceError::Failed) => Status::DeviceFault,
         Err(DeviceError::NoMemory) => Status::NoMemory,
     }
+}
+
+// Carries a command out on a tree, and lets both go.
+fn carry_out<V: Device, F: Shelf>(
+    alloc: Global,
+    tree: Tree,
+    device: &mut V,
+    shelf: &mut F,
+    command: Command,
+) -> Result<Reply, SessionFault>
+    requires { (set : List Rock) × IsOpenAs set tree (V.state device.old) }
+    ensures { (keys : List RockKey) × Executes command result tree keys
+        (V.state device.old) (V.state device.new) (F.state shelf.old) (F.state shelf.new) }
+{
+    let mut tree = tree;
+    execute(alloc, &mut tree, device, shelf, &command)
 }

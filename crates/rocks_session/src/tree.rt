@@ -17,7 +17,7 @@ pub struct Tree {
 
 impl Model for Tree {
     ghost use Rattle.std.specs.Prelude.{List};
-    ghost use Rattle.rocks_session.specs.declared.version.RockKey.{RockKey};
+    ghost use Rattle.rocks_version.specs.declared.key.RockKey.{RockKey};
 
     ghost Value = { List RockKey };
 

@@ -1,5 +1,6 @@
 //! Whole runs over objects in memory.
 
+mod comparison;
 mod evaluation;
 mod failing;
 

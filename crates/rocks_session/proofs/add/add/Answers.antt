@@ -2,7 +2,7 @@ use Rattle.std.proofs.Common.{◌≡◌, true, false, sym, subst, ◌∙◌, cod
 use Rattle.std.specs.Prelude.{Ok}
 use Rattle.std.specs.Str.{bytes_eq}
 use Rattle.rocks_session.specs.Staged.{IsSound, IsOffer, Installs}
-use Rattle.rocks_session.specs.declared.words.Command.TheVariants.{Add}
+use Rattle.rocks_command.specs.declared.command.Command.TheVariants.{Add}
 use Rattle.rocks_session.proofs.Adding.{answered, provided, no_rock, not_served, installs_done}
 use Rattle.rocks_session.proofs.Asking.{stays_same}
 use Rattle.rocks_session.proofs.Installed.{installed}

@@ -1,7 +1,7 @@
 use Rattle.std.proofs.Common.{ap, inl, inr, refl, sym, ◌∙◌, arith}
 use Rattle.std.specs.Prelude.{Err}
 use Rattle.rocks_session.specs.declared.status.Status.TheVariants.{Done, Refused, NoMemory, DeviceFault, Damaged}
-use Rattle.rocks_session.proofs.Carried.{says_nothing, says_all, says_some, says_none, runs, files_kept, refused_ends, done_ends}
+use Rattle.rocks_session.proofs.Carried.{says_nothing, says_all, says_some, says_none, runs, only_opened, only_read, only_said, refused_ends, done_ends}
 use Rattle.rocks_session.proofs.Complete.{anyway, not_damaged, risen_since}
 use Rattle.rocks_session.proofs.Writing.{fault_risen}
 use Rattle.rocks_session.proofs.session.run.Goals as goal
@@ -15,81 +15,81 @@ returns-in-Err-DeviceFault-clause-said g c = says_nothing _ (g.F.Shelf.state c.a
 pub returns-in-Err-NoMemory-open-clause-said : goal.returns-in-Err-NoMemory-open-clause-said
 returns-in-Err-NoMemory-open-clause-said g c = says_nothing _ (g.F.Shelf.state c.args.shelf.now).holds (g.V.Device.state c.args.device.now) (g.V.Device.state c.open.new.device) (c.open.ensures.left.said)
 
-pub returns-in-Err-DeviceFault-execute-clause-said : goal.returns-in-Err-DeviceFault-execute-clause-said
-returns-in-Err-DeviceFault-execute-clause-said g c = says_nothing _ (g.F.Shelf.state c.args.shelf.now).holds (g.V.Device.state c.args.device.now) (g.V.Device.state c.execute.new.device) (c.execute.ensures.keeps.said ∙ c.open.ensures.left.said)
+pub returns-in-Err-DeviceFault-carry_out-clause-said : goal.returns-in-Err-DeviceFault-carry_out-clause-said
+returns-in-Err-DeviceFault-carry_out-clause-said g c = says_nothing _ (g.F.Shelf.state c.args.shelf.now).holds (g.V.Device.state c.args.device.now) (g.V.Device.state c.carry_out.new.device) (c.carry_out.ensures.1.keeps.said ∙ c.open.ensures.left.said)
 
 pub returns-in-Err-ShelfFault-clause-said : goal.returns-in-Err-ShelfFault-clause-said
-returns-in-Err-ShelfFault-clause-said g c = says_nothing _ (g.F.Shelf.state c.args.shelf.now).holds (g.V.Device.state c.args.device.now) (g.V.Device.state c.execute.new.device) (c.execute.ensures.keeps.said ∙ c.open.ensures.left.said)
+returns-in-Err-ShelfFault-clause-said g c = says_nothing _ (g.F.Shelf.state c.args.shelf.now).holds (g.V.Device.state c.args.device.now) (g.V.Device.state c.carry_out.new.device) (c.carry_out.ensures.1.keeps.said ∙ c.open.ensures.left.said)
 
-pub returns-in-Err-NoMemory-execute-clause-said : goal.returns-in-Err-NoMemory-execute-clause-said
-returns-in-Err-NoMemory-execute-clause-said g c = says_nothing _ (g.F.Shelf.state c.args.shelf.now).holds (g.V.Device.state c.args.device.now) (g.V.Device.state c.execute.new.device) (c.execute.ensures.keeps.said ∙ c.open.ensures.left.said)
+pub returns-in-Err-NoMemory-carry_out-clause-said : goal.returns-in-Err-NoMemory-carry_out-clause-said
+returns-in-Err-NoMemory-carry_out-clause-said g c = says_nothing _ (g.F.Shelf.state c.args.shelf.now).holds (g.V.Device.state c.args.device.now) (g.V.Device.state c.carry_out.new.device) (c.carry_out.ensures.1.keeps.said ∙ c.open.ensures.left.said)
 
 pub returns-in-Ok-say-clause-carried : goal.returns-in-Ok-say-clause-carried
 returns-in-Ok-say-clause-carried g c =
     let first = g.V.Device.state c.args.device.now in
     let mid = g.V.Device.state c.open.new.device in
-    let exec = g.V.Device.state c.execute.new.device in
+    let exec = g.V.Device.state c.carry_out.new.device in
     let now = g.V.Device.state c.say.new.self in
     let holds = (g.F.Shelf.state c.args.shelf.now).holds in
     λ _. (
       c.in-Ok.command,
       c.in-Ok.ensures,
-      runs c.in-Ok.command holds c.in-Ok-execute.reply c.in-Ok-open.tree c.execute.new.tree first mid exec now c.open.ensures.left c.in-Ok-open.ensures.only c.in-Ok-execute.ensures.carried c.execute.ensures.keeps.said
-          Refused c.as_slice.result.now c.in-Ok-say.field-0 (g.met.V.Device.tells c.args.device.now c.execute.new.device) c.as_slice.ensures c.in-Ok-say.ensures (refused_ends c.in-Ok-execute.reply.refusal (sym c.is_some.ensures ∙ c.if-is_some.true)),
+      runs c.in-Ok.command holds c.in-Ok-carry_out.reply c.in-Ok-open.tree c.in-Ok-carry_out.ensures.0 first mid exec now c.open.ensures.left c.in-Ok-open.ensures.only c.in-Ok-carry_out.ensures.1.carried c.carry_out.ensures.1.keeps.said
+          Refused c.as_slice.result.now c.in-Ok-say.field-0 (g.met.V.Device.tells c.args.device.now c.carry_out.new.device) c.as_slice.ensures c.in-Ok-say.ensures (refused_ends c.in-Ok-carry_out.reply.refusal (sym c.is_some.ensures ∙ c.if-is_some.true)),
     )
 
 pub returns-in-Ok-say-clause-said : goal.returns-in-Ok-say-clause-said
 returns-in-Ok-say-clause-said g c =
     let first = g.V.Device.state c.args.device.now in
     let mid = g.V.Device.state c.open.new.device in
-    let exec = g.V.Device.state c.execute.new.device in
+    let exec = g.V.Device.state c.carry_out.new.device in
     let now = g.V.Device.state c.say.new.self in
     let holds = (g.F.Shelf.state c.args.shelf.now).holds in
-    says_all c.in-Ok.command holds c.in-Ok-execute.reply c.in-Ok-open.tree c.execute.new.tree first mid exec now c.open.ensures.left c.in-Ok-open.ensures.only c.in-Ok-execute.ensures.carried c.execute.ensures.keeps.said
+    says_all c.in-Ok.command holds c.in-Ok-carry_out.reply c.in-Ok-open.tree c.in-Ok-carry_out.ensures.0 first mid exec now c.open.ensures.left c.in-Ok-open.ensures.only c.in-Ok-carry_out.ensures.1.carried c.carry_out.ensures.1.keeps.said
     _ c.as_slice.result.now c.in-Ok-say.field-0 c.in-Ok.ensures c.as_slice.ensures c.in-Ok-say.ensures
 
 pub returns-in-Ok-2-clause-carried : goal.returns-in-Ok-2-clause-carried
 returns-in-Ok-2-clause-carried g c =
     let first = g.V.Device.state c.args.device.now in
     let mid = g.V.Device.state c.open.new.device in
-    let exec = g.V.Device.state c.execute.new.device in
+    let exec = g.V.Device.state c.carry_out.new.device in
     let now = g.V.Device.state c.say.new.self in
     let holds = (g.F.Shelf.state c.args.shelf.now).holds in
     λ _. (
       c.in-Ok.command,
       c.in-Ok.ensures,
-      runs c.in-Ok.command holds c.in-Ok-execute.reply c.in-Ok-open.tree c.execute.new.tree first mid exec now c.open.ensures.left c.in-Ok-open.ensures.only c.in-Ok-execute.ensures.carried c.execute.ensures.keeps.said
-          Done c.as_slice.result.now c.in-Ok-2.field-0 (g.met.V.Device.tells c.args.device.now c.execute.new.device) c.as_slice.ensures c.in-Ok-2.ensures (done_ends c.in-Ok-execute.reply.refusal (sym c.is_some.ensures ∙ c.if-is_some.false)),
+      runs c.in-Ok.command holds c.in-Ok-carry_out.reply c.in-Ok-open.tree c.in-Ok-carry_out.ensures.0 first mid exec now c.open.ensures.left c.in-Ok-open.ensures.only c.in-Ok-carry_out.ensures.1.carried c.carry_out.ensures.1.keeps.said
+          Done c.as_slice.result.now c.in-Ok-2.field-0 (g.met.V.Device.tells c.args.device.now c.carry_out.new.device) c.as_slice.ensures c.in-Ok-2.ensures (done_ends c.in-Ok-carry_out.reply.refusal (sym c.is_some.ensures ∙ c.if-is_some.false)),
     )
 
 pub returns-in-Ok-2-clause-said : goal.returns-in-Ok-2-clause-said
 returns-in-Ok-2-clause-said g c =
     let first = g.V.Device.state c.args.device.now in
     let mid = g.V.Device.state c.open.new.device in
-    let exec = g.V.Device.state c.execute.new.device in
+    let exec = g.V.Device.state c.carry_out.new.device in
     let now = g.V.Device.state c.say.new.self in
     let holds = (g.F.Shelf.state c.args.shelf.now).holds in
-    says_all c.in-Ok.command holds c.in-Ok-execute.reply c.in-Ok-open.tree c.execute.new.tree first mid exec now c.open.ensures.left c.in-Ok-open.ensures.only c.in-Ok-execute.ensures.carried c.execute.ensures.keeps.said
+    says_all c.in-Ok.command holds c.in-Ok-carry_out.reply c.in-Ok-open.tree c.in-Ok-carry_out.ensures.0 first mid exec now c.open.ensures.left c.in-Ok-open.ensures.only c.in-Ok-carry_out.ensures.1.carried c.carry_out.ensures.1.keeps.said
     _ c.as_slice.result.now c.in-Ok-2.field-0 c.in-Ok.ensures c.as_slice.ensures c.in-Ok-2.ensures
 
 pub returns-in-Err-Failed-clause-said : goal.returns-in-Err-Failed-clause-said
 returns-in-Err-Failed-clause-said g c =
     let first = g.V.Device.state c.args.device.now in
     let mid = g.V.Device.state c.open.new.device in
-    let exec = g.V.Device.state c.execute.new.device in
+    let exec = g.V.Device.state c.carry_out.new.device in
     let now = g.V.Device.state c.say.new.self in
     let holds = (g.F.Shelf.state c.args.shelf.now).holds in
-    says_some c.in-Ok.command holds c.in-Ok-execute.reply c.in-Ok-open.tree c.execute.new.tree first mid exec now c.open.ensures.left c.in-Ok-open.ensures.only c.in-Ok-execute.ensures.carried c.execute.ensures.keeps.said
+    says_some c.in-Ok.command holds c.in-Ok-carry_out.reply c.in-Ok-open.tree c.in-Ok-carry_out.ensures.0 first mid exec now c.open.ensures.left c.in-Ok-open.ensures.only c.in-Ok-carry_out.ensures.1.carried c.carry_out.ensures.1.keeps.said
     _ c.as_slice.result.now c.in-Err-Failed.field-0 c.in-Err-Failed.field-0-is c.in-Ok.ensures c.as_slice.ensures c.in-Err-Failed.ensures
 
 pub returns-clause-said : goal.returns-clause-said
 returns-clause-said g c =
     let first = g.V.Device.state c.args.device.now in
     let mid = g.V.Device.state c.open.new.device in
-    let exec = g.V.Device.state c.execute.new.device in
+    let exec = g.V.Device.state c.carry_out.new.device in
     let now = g.V.Device.state c.say.new.self in
     let holds = (g.F.Shelf.state c.args.shelf.now).holds in
-    says_none c.in-Ok.command holds c.in-Ok-execute.reply c.in-Ok-open.tree c.execute.new.tree first mid exec now c.open.ensures.left c.in-Ok-open.ensures.only c.in-Ok-execute.ensures.carried c.execute.ensures.keeps.said
+    says_none c.in-Ok.command holds c.in-Ok-carry_out.reply c.in-Ok-open.tree c.in-Ok-carry_out.ensures.0 first mid exec now c.open.ensures.left c.in-Ok-open.ensures.only c.in-Ok-carry_out.ensures.1.carried c.carry_out.ensures.1.keeps.said
     _ c.as_slice.result.now c.in-Err-NoMemory-say.field-0 c.in-Err-NoMemory-say.field-0-is c.in-Err-NoMemory-say.ensures
 
 pub returns-in-Err-Damaged-clause-complete : goal.returns-in-Err-Damaged-clause-complete
@@ -108,42 +108,51 @@ pub returns-in-Err-Failed-clause-complete : goal.returns-in-Err-Failed-clause-co
 returns-in-Err-Failed-clause-complete g c = λ command set _.
     let first = (g.V.Device.state c.args.device.now).faults in
     let mid = (g.V.Device.state c.open.new.device).faults in
-    let exec = (g.V.Device.state c.execute.new.device).faults in
+    let exec = (g.V.Device.state c.carry_out.new.device).faults in
     let now = (g.V.Device.state c.say.new.self).faults in
     anyway (g.V.Device.state c.args.device.now).files set _ _ DeviceFault
-    (inr (inr (inl (risen_since first mid exec now c.open.ensures.faults c.execute.ensures.keeps.device_faults (fault_risen {T = Unit {0}} (Err c.in-Err-Failed.field-0) exec exec now (omega arith) c.in-Err-Failed.ensures.faults (ap Err c.in-Err-Failed.field-0-is))))))
+    (inr (inr (inl (risen_since first mid exec now c.open.ensures.faults c.carry_out.ensures.1.keeps.device_faults (fault_risen {T = Unit {0}} (Err c.in-Err-Failed.field-0) exec exec now (omega arith) c.in-Err-Failed.ensures.faults (ap Err c.in-Err-Failed.field-0-is))))))
 
-pub returns-in-Err-DeviceFault-execute-clause-evaluated : goal.returns-in-Err-DeviceFault-execute-clause-evaluated
-returns-in-Err-DeviceFault-execute-clause-evaluated g c = λ path evaluates.
-    files_kept _ c.in-Ok.command path c.in-Ok-open.tree c.execute.new.tree (g.V.Device.state c.args.device.now) (g.V.Device.state c.open.new.device) (g.V.Device.state c.execute.new.device) (g.V.Device.state c.execute.new.device)
-    c.open.ensures.left c.execute.ensures.untouched refl c.in-Ok.ensures evaluates
+pub returns-in-Err-DeviceFault-carry_out-clause-read_only : goal.returns-in-Err-DeviceFault-carry_out-clause-read_only
+returns-in-Err-DeviceFault-carry_out-clause-read_only g c = λ command is reads.
+    only_read _ c.in-Ok.command command c.in-Ok-open.tree c.carry_out.ensures.0 (g.V.Device.state c.args.device.now) (g.V.Device.state c.open.new.device) (g.V.Device.state c.carry_out.new.device)
+    c.open.ensures.left c.carry_out.ensures.1.untouched c.in-Ok.ensures is reads
 
-pub returns-in-Err-ShelfFault-clause-evaluated : goal.returns-in-Err-ShelfFault-clause-evaluated
-returns-in-Err-ShelfFault-clause-evaluated g c = λ path evaluates.
-    files_kept _ c.in-Ok.command path c.in-Ok-open.tree c.execute.new.tree (g.V.Device.state c.args.device.now) (g.V.Device.state c.open.new.device) (g.V.Device.state c.execute.new.device) (g.V.Device.state c.execute.new.device)
-    c.open.ensures.left c.execute.ensures.untouched refl c.in-Ok.ensures evaluates
+pub returns-in-Err-ShelfFault-clause-read_only : goal.returns-in-Err-ShelfFault-clause-read_only
+returns-in-Err-ShelfFault-clause-read_only g c = λ command is reads.
+    only_read _ c.in-Ok.command command c.in-Ok-open.tree c.carry_out.ensures.0 (g.V.Device.state c.args.device.now) (g.V.Device.state c.open.new.device) (g.V.Device.state c.carry_out.new.device)
+    c.open.ensures.left c.carry_out.ensures.1.untouched c.in-Ok.ensures is reads
 
-pub returns-in-Err-NoMemory-execute-clause-evaluated : goal.returns-in-Err-NoMemory-execute-clause-evaluated
-returns-in-Err-NoMemory-execute-clause-evaluated g c = λ path evaluates.
-    files_kept _ c.in-Ok.command path c.in-Ok-open.tree c.execute.new.tree (g.V.Device.state c.args.device.now) (g.V.Device.state c.open.new.device) (g.V.Device.state c.execute.new.device) (g.V.Device.state c.execute.new.device)
-    c.open.ensures.left c.execute.ensures.untouched refl c.in-Ok.ensures evaluates
+pub returns-in-Err-NoMemory-carry_out-clause-read_only : goal.returns-in-Err-NoMemory-carry_out-clause-read_only
+returns-in-Err-NoMemory-carry_out-clause-read_only g c = λ command is reads.
+    only_read _ c.in-Ok.command command c.in-Ok-open.tree c.carry_out.ensures.0 (g.V.Device.state c.args.device.now) (g.V.Device.state c.open.new.device) (g.V.Device.state c.carry_out.new.device)
+    c.open.ensures.left c.carry_out.ensures.1.untouched c.in-Ok.ensures is reads
 
-pub returns-in-Ok-say-clause-evaluated : goal.returns-in-Ok-say-clause-evaluated
-returns-in-Ok-say-clause-evaluated g c = λ path evaluates.
-    files_kept _ c.in-Ok.command path c.in-Ok-open.tree c.execute.new.tree (g.V.Device.state c.args.device.now) (g.V.Device.state c.open.new.device) (g.V.Device.state c.execute.new.device) (g.V.Device.state c.say.new.self)
-    c.open.ensures.left c.execute.ensures.untouched c.in-Ok-say.ensures.files c.in-Ok.ensures evaluates
+pub returns-in-Ok-say-clause-read_only : goal.returns-in-Ok-say-clause-read_only
+returns-in-Ok-say-clause-read_only g c = λ command is reads.
+    only_said _ c.in-Ok.command command c.in-Ok-open.tree c.carry_out.ensures.0 (g.V.Device.state c.args.device.now) (g.V.Device.state c.open.new.device) (g.V.Device.state c.carry_out.new.device)
+    c.open.ensures.left c.carry_out.ensures.1.untouched c.in-Ok.ensures is reads _ c.as_slice.result.now (g.V.Device.state c.say.new.self) c.in-Ok-say.ensures
 
-pub returns-in-Ok-2-clause-evaluated : goal.returns-in-Ok-2-clause-evaluated
-returns-in-Ok-2-clause-evaluated g c = λ path evaluates.
-    files_kept _ c.in-Ok.command path c.in-Ok-open.tree c.execute.new.tree (g.V.Device.state c.args.device.now) (g.V.Device.state c.open.new.device) (g.V.Device.state c.execute.new.device) (g.V.Device.state c.say.new.self)
-    c.open.ensures.left c.execute.ensures.untouched c.in-Ok-2.ensures.files c.in-Ok.ensures evaluates
+pub returns-in-Ok-2-clause-read_only : goal.returns-in-Ok-2-clause-read_only
+returns-in-Ok-2-clause-read_only g c = λ command is reads.
+    only_said _ c.in-Ok.command command c.in-Ok-open.tree c.carry_out.ensures.0 (g.V.Device.state c.args.device.now) (g.V.Device.state c.open.new.device) (g.V.Device.state c.carry_out.new.device)
+    c.open.ensures.left c.carry_out.ensures.1.untouched c.in-Ok.ensures is reads _ c.as_slice.result.now (g.V.Device.state c.say.new.self) c.in-Ok-2.ensures
 
-pub returns-in-Err-Failed-clause-evaluated : goal.returns-in-Err-Failed-clause-evaluated
-returns-in-Err-Failed-clause-evaluated g c = λ path evaluates.
-    files_kept _ c.in-Ok.command path c.in-Ok-open.tree c.execute.new.tree (g.V.Device.state c.args.device.now) (g.V.Device.state c.open.new.device) (g.V.Device.state c.execute.new.device) (g.V.Device.state c.say.new.self)
-    c.open.ensures.left c.execute.ensures.untouched c.in-Err-Failed.ensures.files c.in-Ok.ensures evaluates
+pub returns-in-Err-Failed-clause-read_only : goal.returns-in-Err-Failed-clause-read_only
+returns-in-Err-Failed-clause-read_only g c = λ command is reads.
+    only_said _ c.in-Ok.command command c.in-Ok-open.tree c.carry_out.ensures.0 (g.V.Device.state c.args.device.now) (g.V.Device.state c.open.new.device) (g.V.Device.state c.carry_out.new.device)
+    c.open.ensures.left c.carry_out.ensures.1.untouched c.in-Ok.ensures is reads _ c.as_slice.result.now (g.V.Device.state c.say.new.self) c.in-Err-Failed.ensures
 
-pub returns-clause-evaluated : goal.returns-clause-evaluated
-returns-clause-evaluated g c = λ path evaluates.
-    files_kept _ c.in-Ok.command path c.in-Ok-open.tree c.execute.new.tree (g.V.Device.state c.args.device.now) (g.V.Device.state c.open.new.device) (g.V.Device.state c.execute.new.device) (g.V.Device.state c.say.new.self)
-    c.open.ensures.left c.execute.ensures.untouched c.in-Err-NoMemory-say.ensures.files c.in-Ok.ensures evaluates
+pub returns-clause-read_only : goal.returns-clause-read_only
+returns-clause-read_only g c = λ command is reads.
+    only_said _ c.in-Ok.command command c.in-Ok-open.tree c.carry_out.ensures.0 (g.V.Device.state c.args.device.now) (g.V.Device.state c.open.new.device) (g.V.Device.state c.carry_out.new.device)
+    c.open.ensures.left c.carry_out.ensures.1.untouched c.in-Ok.ensures is reads _ c.as_slice.result.now (g.V.Device.state c.say.new.self) c.in-Err-NoMemory-say.ensures
+
+pub returns-in-Err-Damaged-clause-read_only : goal.returns-in-Err-Damaged-clause-read_only
+returns-in-Err-Damaged-clause-read_only g c = λ command is reads. only_opened (g.V.Device.state c.args.device.now) (g.V.Device.state c.open.new.device) c.open.ensures.left
+
+pub returns-in-Err-DeviceFault-clause-read_only : goal.returns-in-Err-DeviceFault-clause-read_only
+returns-in-Err-DeviceFault-clause-read_only g c = λ command is reads. only_opened (g.V.Device.state c.args.device.now) (g.V.Device.state c.open.new.device) c.open.ensures.left
+
+pub returns-in-Err-NoMemory-open-clause-read_only : goal.returns-in-Err-NoMemory-open-clause-read_only
+returns-in-Err-NoMemory-open-clause-read_only g c = λ command is reads. only_opened (g.V.Device.state c.args.device.now) (g.V.Device.state c.open.new.device) c.open.ensures.left
