@@ -3,7 +3,7 @@ use Rattle.std.specs.Prelude.{ℕ, ◌≢◌, List, [], ◌∷◌, ◌++◌, len
 use Rattle.std.specs.List.{flat_map, AllByRecursion}
 use Rattle.std.specs.FinMap.{from_entries}
 use Rattle.rocks_text.specs.Files.{Files}
-use Rattle.tree_paths.specs.Places.{plain_path}
+use Rattle.tree_paths.specs.Places.{plain_path, rock_folder}
 use Rattle.tree_model.specs.Rock.{Rock}
 
 -- NAME-VERSION.rockspec
@@ -12,9 +12,7 @@ rockspec_name name version = name ++ (codes "-" ++ (version ++ codes ".rockspec"
 
 -- where a rock's rockspec stands
 abbrev pub rockspec_path : (name version : List ℕ) → List ℕ
-rockspec_path name version =
-    codes "lib/luarocks/rocks-5.4/"
-    ++ (name ++ (codes "/" ++ (version ++ (codes "/" ++ rockspec_name name version))))
+rockspec_path name version = rock_folder name version ++ rockspec_name name version
 
 -- the files that a rock brings, with their paths in the tree
 abbrev pub files_of : Rock → List (List ℕ × List ℕ)

@@ -5,6 +5,7 @@ ghost use Rattle.tree_model.specs.Tree.{rockspec_name, rockspec_path};
 
 use rocks_text::TreePath;
 use std::alloc::{AllocError, Global};
+use tree_paths::rock_folder;
 
 /// `NAME-VERSION.rockspec`. The only error is want of memory.
 pub fn rockspec_name(alloc: Global, name: &str, version: &str) -> Result<String, AllocError>
@@ -19,8 +20,7 @@ pub fn rockspec_place(alloc: Global, name: &str, version: &str) -> Result<TreePa
     requires { IsTrue (is_tree_path (rockspec_path name.now version.now)) }
     ensures { IfOk result (λ path. path ≡ rockspec_path name.now version.now) }
 {
-    let text = format!(in alloc;
-        "lib/luarocks/rocks-5.4/{name}/{version}/{name}-{version}.rockspec"
-    )?;
+    let folder = rock_folder(alloc, name, version)?;
+    let text = format!(in alloc; "{folder}{name}-{version}.rockspec")?;
     TreePath::known(alloc, &text)
 }

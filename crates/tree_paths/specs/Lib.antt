@@ -1,2 +1,3 @@
 pub use Rattle.rocks_text.specs.Files
+pub mod Conflicts
 pub mod Places
