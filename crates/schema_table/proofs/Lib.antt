@@ -1,0 +1,11 @@
+mod Absent
+mod Answered
+mod Each
+mod Entries
+mod Lists
+mod Matched
+mod Missed
+mod PathTexts
+mod Placed
+mod Reached
+mod Told
