@@ -104,6 +104,24 @@ local function is_otherwise_ordered(version)
    end
 end
 
+local words_above_numbers = { cvs = true, scm = true, dev = true }
+
+-- Of two versions one has a number that LuaRocks may put above the other's word.
+local function has_number_above_word(one, other)
+   local number, word = false, false
+   for _, part in ipairs(components_of(one)) do
+      number = number or (not is_word(part) and tonumber(part) >= 100000000)
+   end
+   for _, part in ipairs(components_of(other)) do word = word or words_above_numbers[part] end
+   return number and word
+end
+
+local function are_otherwise_ordered(left, right)
+   local why = is_otherwise_ordered(left) or is_otherwise_ordered(right)
+   if why then return why end
+   if has_number_above_word(left, right) or has_number_above_word(right, left) then return "a number above a word" end
+end
+
 -- Behind a word stands a number, which may have to be 0.
 local function has_number_behind_word(version, zero)
    local all = components_of(version)
@@ -115,7 +133,7 @@ end
 
 local function is_otherwise_met(version, constraint)
    local given = constraint.version.string
-   local why = is_otherwise_ordered(version) or is_otherwise_ordered(given)
+   local why = are_otherwise_ordered(version, given)
    if why then return why end
    local op = constraint.op
    if (op == "==" or op == "~=") and (has_number_behind_word(version, true) or has_number_behind_word(given, true)) then
@@ -153,7 +171,7 @@ local function compare_orders()
       local command = ("%s --tree %s compare %s %s"):format(
          shell_quoted(program), shell_quoted(folder .. "/none"), shell_quoted(left), shell_quoted(right))
       local ours = output_of(command):match("^%S+ ([<=>]) %S+\nok\n$") or "nothing"
-      judged(ours == theirs, is_otherwise_ordered(left) or is_otherwise_ordered(right),
+      judged(ours == theirs, are_otherwise_ordered(left, right),
          "compare " .. left .. " " .. right, ours, theirs)
    end
 end
