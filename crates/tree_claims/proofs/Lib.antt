@@ -1,0 +1,11 @@
+pub mod Members
+pub mod Entries
+pub mod PathOrder
+pub mod Found
+pub mod Least
+pub mod ItemOrder
+pub mod RockSets
+pub mod Stands
+pub mod ClashLaws
+pub mod FoundClash
+pub mod Held
