@@ -7,3 +7,5 @@ mod changes;
 mod claims;
 #[cfg(test)]
 mod rocks;
+#[cfg(test)]
+mod speed;
