@@ -5,3 +5,4 @@ mod printing;
 mod quote;
 
 pub use printing::print;
+pub use quote::{print_escapes, print_quoted};

@@ -1,4 +1,4 @@
-ghost use Rattle.std.specs.Prelude.{◌≡◌, ◌++◌, OnOk};
+ghost use Rattle.std.specs.Prelude.{◌≡◌, ◌++◌, OnOk, flat_map};
 ghost use Rattle.lua_print.specs.Quoted.{quoted, escaped};
 
 use std::alloc::AllocError;
@@ -9,10 +9,19 @@ pub fn print_quoted(text: &[u8], out: &mut Vec<u8>) -> Result<(), AllocError>
     ensures { OnOk result (out.new.items ≡ out.old.items ++ quoted text.now) }
 {
     out.extend_from_slice(b"\"")?;
+    print_escapes(text, out)?;
+    out.extend_from_slice(b"\"")
+}
+
+/// Appends a text with its escapes and no quotes. The only error is want of memory, and some of the text may be there
+/// then.
+pub fn print_escapes(text: &[u8], out: &mut Vec<u8>) -> Result<(), AllocError>
+    ensures { OnOk result (out.new.items ≡ out.old.items ++ flat_map escaped text.now) }
+{
     for byte in text {
         print_escaped(*byte, out)?;
     }
-    out.extend_from_slice(b"\"")
+    Ok(())
 }
 
 fn print_escaped(byte: u8, out: &mut Vec<u8>) -> Result<(), AllocError>

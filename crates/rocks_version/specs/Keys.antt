@@ -1,5 +1,5 @@
--- The order in which rocks are listed. (This project's own.)
-use Rattle.std.specs.Prelude.{Bool, ◌&&◌, ◌||◌}
+-- The order in which rocks are listed (this project's own), and the file name of a rock's rockspec (LuaRocks).
+use Rattle.std.specs.Prelude.{ℕ, Bool, ◌&&◌, ◌||◌, List, ◌++◌, codes}
 use Rattle.std.specs.declared.cmp.Ordering.{Ordering}
 use Rattle.std.specs.Ordering.{is_eq, is_gt, is_lt, nat_cmp, on, then_cmp, flip_args}
 use Rattle.std.specs.Cmp.Lexicographic.{slice_cmp}
@@ -15,3 +15,7 @@ unfoldable pub is_before : RockKey → RockKey → Bool
 is_before left right =
     is_lt (slice_cmp nat_cmp left.name right.name)
     || (is_eq (slice_cmp nat_cmp left.name right.name) && is_gt (version_rank left.version right.version))
+
+-- NAME-VERSION.rockspec
+abbrev pub rockspec_name : (name version : List ℕ) → List ℕ
+rockspec_name name version = name ++ (codes "-" ++ (version ++ codes ".rockspec"))

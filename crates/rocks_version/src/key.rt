@@ -1,5 +1,5 @@
-ghost use Rattle.std.specs.Prelude.{◌≡◌, IfOk};
-ghost use Rattle.rocks_version.specs.Keys.{is_before, listing_cmp};
+ghost use Rattle.std.specs.Prelude.{◌≡◌, IfOk, string_bytes};
+ghost use Rattle.rocks_version.specs.Keys.{is_before, listing_cmp, rockspec_name};
 
 use crate::{Version, rank};
 use rocks_text::Name;
@@ -46,4 +46,14 @@ pub fn listing(left: &RockKey, right: &RockKey) -> Ordering
     left.name
         .cmp(&right.name)
         .then(rank(&right.version, &left.version))
+}
+
+/// The file name of a rock's rockspec, `NAME-VERSION.rockspec` (LuaRocks documentation, Rockspec format). The only
+/// error is want of memory.
+pub fn rockspec_name(alloc: Global, key: &RockKey) -> Result<String, AllocError>
+    ensures { IfOk result (λ text. string_bytes text ≡ rockspec_name key.now.name key.now.version) }
+{
+    let name = key.name.as_str();
+    let version = key.version.as_str();
+    format!(in alloc; "{name}-{version}.rockspec")
 }

@@ -11,6 +11,6 @@ mod version;
 
 pub use component::{Rung, Step, first, has_component};
 pub use fault::VersionFault;
-pub use key::{RockKey, before, listing};
+pub use key::{RockKey, before, listing, rockspec_name};
 pub use order::{compare, rank};
 pub use version::Version;

@@ -20,6 +20,4 @@ fn each_file_has_its_place(rt: HostRuntime) {
     assert!(rt; is_place(rt.alloc(), Kind::Lua, "share/lua/5.4/h/i.x"));
     assert!(rt; is_place(rt.alloc(), Kind::Lib, "lib/lua/5.4/h/i.x"));
     assert!(rt; is_place(rt.alloc(), Kind::Bin, "bin/h/i.x"));
-    let name = tree_model::rockspec_name(rt.alloc(), "hello", "1.0-1").expect(&rt, "memory");
-    assert!(rt; name.as_str() == "hello-1.0-1.rockspec");
 }

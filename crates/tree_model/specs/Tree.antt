@@ -1,14 +1,11 @@
 -- The files of a tree, as a function of the set of its rocks. The places are those of a LuaRocks tree for Lua 5.4.
-use Rattle.std.specs.Prelude.{ℕ, ◌≢◌, List, [], ◌∷◌, ◌++◌, length, map, codes}
+use Rattle.std.specs.Prelude.{ℕ, ◌≢◌, List, [], ◌∷◌, ◌++◌, length, map}
 use Rattle.std.specs.List.{flat_map, AllByRecursion}
 use Rattle.std.specs.FinMap.{from_entries}
 use Rattle.rocks_text.specs.Files.{Files}
+use Rattle.rocks_version.specs.Keys.{rockspec_name}
 use Rattle.tree_paths.specs.Places.{plain_path, rock_folder}
 use Rattle.tree_model.specs.Rock.{Rock}
-
--- NAME-VERSION.rockspec
-abbrev pub rockspec_name : (name version : List ℕ) → List ℕ
-rockspec_name name version = name ++ (codes "-" ++ (version ++ codes ".rockspec"))
 
 -- where a rock's rockspec stands
 abbrev pub rockspec_path : (name version : List ℕ) → List ℕ

@@ -5,4 +5,4 @@
 pub mod laws;
 mod places;
 
-pub use places::{rockspec_name, rockspec_place};
+pub use places::rockspec_place;

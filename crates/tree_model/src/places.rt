@@ -1,18 +1,11 @@
 //! Where a rock's own files stand in a tree.
-ghost use Rattle.std.specs.Prelude.{◌≡◌, IsTrue, IfOk, string_bytes};
+ghost use Rattle.std.specs.Prelude.{◌≡◌, IsTrue, IfOk};
 ghost use Rattle.rocks_text.specs.Texts.{is_tree_path};
-ghost use Rattle.tree_model.specs.Tree.{rockspec_name, rockspec_path};
+ghost use Rattle.tree_model.specs.Tree.{rockspec_path};
 
 use rocks_text::TreePath;
 use std::alloc::{AllocError, Global};
 use tree_paths::rock_folder;
-
-/// `NAME-VERSION.rockspec`. The only error is want of memory.
-pub fn rockspec_name(alloc: Global, name: &str, version: &str) -> Result<String, AllocError>
-    ensures { IfOk result (λ text. string_bytes text ≡ rockspec_name name.now version.now) }
-{
-    format!(in alloc; "{name}-{version}.rockspec")
-}
 
 /// The place of a rock's rockspec: `lib/luarocks/rocks-5.4/NAME/VERSION/NAME-VERSION.rockspec`. The only error is want
 /// of memory.

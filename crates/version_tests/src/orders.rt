@@ -3,7 +3,9 @@
 mod pairs;
 
 use rocks_text::Name;
-use rocks_version::{RockKey, Version, VersionFault, before, compare, listing, rank};
+use rocks_version::{
+    RockKey, Version, VersionFault, before, compare, listing, rank, rockspec_name,
+};
 use std::alloc::Global;
 use std::cmp::Ordering;
 use std::test::Fail;
@@ -163,4 +165,11 @@ fn copies_are_equal(rt: HostRuntime) -> Result<(), Fail> {
     assert_eq!(rt; copied, version);
     assert_eq!(rt; copied.as_str(), "1.0-1");
     Ok(())
+}
+
+#[test]
+fn a_rockspec_has_the_name_of_its_rock(rt: HostRuntime) {
+    let hello = key(rt.alloc(), "hello", "1.0-1").expect(&rt, "a key");
+    let name = rockspec_name(rt.alloc(), &hello).expect(&rt, "memory");
+    assert!(rt; name.as_str() == "hello-1.0-1.rockspec");
 }

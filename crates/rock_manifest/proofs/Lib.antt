@@ -1,0 +1,9 @@
+pub mod Again
+pub mod Finding
+pub mod Gathering
+pub mod Grouping
+pub mod Orders
+pub mod Pieces
+pub mod PrintedTables
+pub mod Spelling
+pub mod Valid

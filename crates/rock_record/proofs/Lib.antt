@@ -1,0 +1,3 @@
+pub mod Places
+pub mod RockRecords
+pub mod RockspecNames

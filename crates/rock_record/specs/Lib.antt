@@ -1,0 +1,3 @@
+pub use Rattle.rock_manifest.specs.Records
+pub use Rattle.rock_manifest.specs.Text
+pub mod Rocks
