@@ -38,7 +38,16 @@ impl Dependency {
         ensures fault { IfErr result (λ fault.
             (fault ≡ DependencyFault.NoMemory) ⊎ HasFault text.now fault) }
     {
-        match read_text(alloc, text.as_bytes()) {
+        Dependency::read_bytes(alloc, text.as_bytes())
+    }
+
+    /// The same of a text that need not be UTF-8. A byte that fits nowhere is the text's first wrong part.
+    pub fn read_bytes(alloc: Global, text: &[u8]) -> Result<Dependency, DependencyFault>
+        ensures read { IfOk result (λ d. IsDependency text.now d.name d.constraints) }
+        ensures fault { IfErr result (λ fault.
+            (fault ≡ DependencyFault.NoMemory) ⊎ HasFault text.now fault) }
+    {
+        match read_text(alloc, text) {
             Ok((name, constraints)) if text.len() <= LONGEST => Ok(Dependency {
                 name,
                 constraints,
