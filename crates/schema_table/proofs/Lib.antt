@@ -1,5 +1,5 @@
 mod Absent
-mod Answered
+pub mod Answered
 mod Each
 mod Entries
 mod Lists

@@ -1,0 +1,5 @@
+pub mod BadFields
+pub mod Gathered
+pub mod Merged
+pub mod Alike
+pub mod Outcomes

@@ -1,0 +1,5 @@
+pub mod Faults
+pub mod Fields
+pub mod Formats
+pub mod Platforms
+pub mod Rows
