@@ -1,0 +1,4 @@
+mod DotSlash
+mod ModuleNames
+mod PathBytes
+mod Standing

@@ -1,0 +1,3 @@
+pub mod Folders
+pub mod Meanings
+pub mod Places
