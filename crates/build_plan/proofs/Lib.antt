@@ -1,0 +1,9 @@
+pub mod Apart
+pub mod DestOrder
+pub mod Early
+pub mod Firsts
+pub mod Lists
+pub mod Meant
+pub mod PlanLaws
+pub mod Planned
+pub mod Stops

@@ -1,0 +1,4 @@
+pub mod Fewest
+pub mod Moved
+pub mod PlaceOrder
+pub mod Taken
