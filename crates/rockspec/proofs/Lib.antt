@@ -1,0 +1,4 @@
+mod Firsts
+pub mod One
+mod Several
+mod Texts
