@@ -4,8 +4,9 @@ use Rattle.std.specs.List.{list_any}
 use Rattle.std.specs.Str.{bytes_eq}
 use Rattle.rocks_text.specs.Texts.{is_file_path, is_name, lowered}
 use Rattle.rocks_version.specs.Texts.{is_rock_version, is_version}
+use Rattle.rocks_version.specs.declared.key.RockKey.{RockKey}
 use Rattle.rocks_command.specs.declared.command.Command.{Command}
-use Rattle.rocks_command.specs.declared.command.Command.TheVariants.{Add, Compare, Eval}
+use Rattle.rocks_command.specs.declared.command.Command.TheVariants.{Add, Compare, Eval, Lint}
 use Rattle.rocks_command.specs.declared.fault.WordsFault.{WordsFault}
 use Rattle.rocks_command.specs.declared.fault.WordsFault.TheVariants.{Options, BadWords, NoMemory}
 
@@ -60,21 +61,26 @@ rooted (flag ∷ tree ∷ words) =
     if is_tree_flag flag then rooted_in tree (from_folders words) (after_from words) else Err Options
 rooted words = Err Options
 
--- a command that stands before word `count`, with no word behind it
-abbrev pub ended : (count : ℕ) → Command → List (List ℕ) → Result Command WordsFault
-ended count command [] = Ok command
-ended count command (word ∷ words) = Err (BadWords count)
+-- what the words before word `count` say, with no word behind them
+abbrev pub ended : {T : Type 0} → (count : ℕ) → T → List (List ℕ) → Result T WordsFault
+ended count said [] = Ok said
+ended count said (word ∷ words) = Err (BadWords count)
 
 -- `VERSION` of a rock, for a name in lower case
-abbrev pub add_version : (name : List ℕ) → List (List ℕ) → Result Command WordsFault
-add_version name [] = Err (BadWords 2)
-add_version name (version ∷ words) =
-    if not (is_rock_version version) then Err (BadWords 2) else ended 3 (Add (record { name = name; version = version })) words
+abbrev pub key_version : (name : List ℕ) → List (List ℕ) → Result RockKey WordsFault
+key_version name [] = Err (BadWords 2)
+key_version name (version ∷ words) =
+    if not (is_rock_version version) then Err (BadWords 2) else ended 3 (record { name = name; version = version }) words
 
 -- `NAME VERSION`
-abbrev pub add_name : List (List ℕ) → Result Command WordsFault
-add_name [] = Err (BadWords 1)
-add_name (name ∷ words) = if is_name (lowered name) then add_version (lowered name) words else Err (BadWords 1)
+abbrev pub rock_key : List (List ℕ) → Result RockKey WordsFault
+rock_key [] = Err (BadWords 1)
+rock_key (name ∷ words) = if is_name (lowered name) then key_version (lowered name) words else Err (BadWords 1)
+
+-- the command on a rock that words name
+abbrev pub keyed : (RockKey → Command) → Result RockKey WordsFault → Result Command WordsFault
+keyed command (Ok key) = Ok (command key)
+keyed command (Err fault) = Err fault
 
 -- `PATH`
 abbrev pub eval_path : List (List ℕ) → Result Command WordsFault
@@ -91,15 +97,16 @@ abbrev pub compare_left : List (List ℕ) → Result Command WordsFault
 compare_left [] = Err (BadWords 1)
 compare_left (left ∷ words) = if not (is_version left) then Err (BadWords 1) else compare_right left words
 
--- `add NAME VERSION`, `eval PATH` or `compare VERSION VERSION`. A fault has the number of the first word that fits no
--- command, which is the count of the words where they end too early.
+-- `add NAME VERSION`, `lint NAME VERSION`, `eval PATH` or `compare VERSION VERSION`. A fault has the number of the
+-- first word that fits no command, which is the count of the words where they end too early.
 abbrev pub command_in : List (List ℕ) → Result Command WordsFault
 command_in [] = Err (BadWords 0)
 command_in (word ∷ words) =
-    if bytes_eq word (codes "add") then add_name words
+    if bytes_eq word (codes "add") then keyed Add (rock_key words)
+    else (if bytes_eq word (codes "lint") then keyed Lint (rock_key words)
     else (if bytes_eq word (codes "eval") then eval_path words
     else (if bytes_eq word (codes "compare") then compare_left words
-    else Err (BadWords 0)))
+    else Err (BadWords 0))))
 
 abbrev pub command_after : Result Rooted WordsFault → Result Command WordsFault
 command_after (Ok rooted) = command_in rooted.command

@@ -3,7 +3,7 @@ ghost use Rattle.std.specs.Prelude.{IsTrue, MatchOption, false, string_bytes};
 ghost use Rattle.std.specs.List.{list_any};
 ghost use Rattle.rocks_version.specs.Texts.{is_rock_version, is_version};
 ghost use Rattle.rocks_command.specs.Words.{command_of, rooted, from_folders, after_from};
-ghost use Rattle.rocks_command.specs.Words.{command_in, add_name, add_version, eval_path};
+ghost use Rattle.rocks_command.specs.Words.{command_in, eval_path, key_version, rock_key};
 ghost use Rattle.rocks_command.specs.Words.{compare_left, compare_right, ended, is_option};
 ghost use Rattle.rocks_command.specs.Words.{IsFaultOf, RootsAre};
 
@@ -18,8 +18,8 @@ use std::alloc::{AllocError, Global};
 const MOST_SERVERS: usize = 8;
 
 /// The command that the words of a command line give: `--tree DIR`, then `--from DIR` at most 8 times, then
-/// `add NAME VERSION`, `eval PATH` or `compare VERSION VERSION`. NAME is put into lower case, PATH is a path on a
-/// server, and VERSION any version, but one that a rock may have behind `add`.
+/// `add NAME VERSION`, `lint NAME VERSION`, `eval PATH` or `compare VERSION VERSION`. NAME is put into lower case,
+/// PATH is a path on a server, and VERSION any version, but one that a rock may have behind `add` and `lint`.
 ///
 /// `Options` and `BadWords` exactly where the words are faulty so, and `NoMemory` where memory runs out.
 pub fn read_words(alloc: Global, words: &[String]) -> Result<Command, WordsFault>
@@ -128,32 +128,34 @@ fn command_in(alloc: Global, words: &[String]) -> Result<Command, WordsFault>
         (IsFaultOf (command_in (map string_bytes words.now))) }
 {
     match words {
-        [verb, rest @ ..] if verb.as_str() == "add" => add_name(alloc, rest),
+        [verb, rest @ ..] if verb.as_str() == "add" => Ok(Command::Add(rock_key(alloc, rest)?)),
+        [verb, rest @ ..] if verb.as_str() == "lint" => Ok(Command::Lint(rock_key(alloc, rest)?)),
         [verb, rest @ ..] if verb.as_str() == "eval" => eval_path(alloc, rest),
         [verb, rest @ ..] if verb.as_str() == "compare" => compare_left(alloc, rest),
         _ => Err(WordsFault::BadWords { which: 0 }),
     }
 }
 
-fn add_name(alloc: Global, words: &[String]) -> Result<Command, WordsFault>
+// The rock that the words name, where no word is left behind it.
+fn rock_key(alloc: Global, words: &[String]) -> Result<RockKey, WordsFault>
     ensures { MatchResult result
-        (λ command. add_name (map string_bytes words.now) ≡ Ok command)
-        (IsFaultOf (add_name (map string_bytes words.now))) }
+        (λ key. rock_key (map string_bytes words.now) ≡ Ok key)
+        (IsFaultOf (rock_key (map string_bytes words.now))) }
 {
     let [name, rest @ ..] = words else {
         return Err(WordsFault::BadWords { which: 1 });
     };
     match Name::from_text(alloc, name.as_str()) {
-        Ok(name) => add_version(alloc, name, rest),
+        Ok(name) => key_version(alloc, name, rest),
         Err(TextFault::NoMemory) => Err(WordsFault::NoMemory),
         Err(_) => Err(WordsFault::BadWords { which: 1 }),
     }
 }
 
-fn add_version(alloc: Global, name: Name, words: &[String]) -> Result<Command, WordsFault>
+fn key_version(alloc: Global, name: Name, words: &[String]) -> Result<RockKey, WordsFault>
     ensures { MatchResult result
-        (λ command. add_version name (map string_bytes words.now) ≡ Ok command)
-        (IsFaultOf (add_version name (map string_bytes words.now))) }
+        (λ key. key_version name (map string_bytes words.now) ≡ Ok key)
+        (IsFaultOf (key_version name (map string_bytes words.now))) }
 {
     let [version, rest @ ..] = words else {
         return Err(WordsFault::BadWords { which: 2 });
@@ -161,7 +163,7 @@ fn add_version(alloc: Global, name: Name, words: &[String]) -> Result<Command, W
     let Some(version) = rock_version(alloc, version.as_str())? else {
         return Err(WordsFault::BadWords { which: 2 });
     };
-    ended(Command::Add(RockKey { name, version }), 3, rest)
+    ended(RockKey { name, version }, 3, rest)
 }
 
 fn eval_path(alloc: Global, words: &[String]) -> Result<Command, WordsFault>
@@ -208,14 +210,14 @@ fn compare_right(alloc: Global, left: Version, words: &[String]) -> Result<Comma
     ended(Command::Compare(left, right), 3, rest)
 }
 
-// The command, where no word is left behind it.
-fn ended(command: Command, count: u32, words: &[String]) -> Result<Command, WordsFault>
-    ensures { result ≡ ended count command (map string_bytes words.now) }
+// What words say, where no word is left behind them.
+fn ended<T: Drop>(said: T, count: u32, words: &[String]) -> Result<T, WordsFault>
+    ensures { result ≡ ended count said (map string_bytes words.now) }
 {
     if !words.is_empty() {
         return Err(WordsFault::BadWords { which: count });
     }
-    Ok(command)
+    Ok(said)
 }
 
 // The version that a word is, if it is one.

@@ -1,42 +1,33 @@
 -- From what the parts of `eval` leave to what it leaves.
 use Rattle.std.proofs.Common.{◌≡◌, ◌<◌, ℕ, true, false, List, Option, None, Some, IfSome, length, is_some, refl, sym, ap, ◌∙◌, ◌+◌, arith, inl, inr, ⊎_elim}
 use Rattle.std.proofs.lemmas.Bool.Decides.{nat_tests}
-use Rattle.std.specs.Prelude.{Result, Ok, Err, IfOk, option_and_then}
+use Rattle.std.specs.Prelude.{Err, option_and_then}
 use Rattle.std.specs.FinMap.{get}
 use Rattle.lua_text.specs.declared.fault.EvalFailed.TheVariants.{Lex}
 use Rattle.lua_lexer.specs.declared.fault.LexFault.TheVariants as lex
 use Rattle.rocks_text.specs.Files.{Files}
-use Rattle.rocks_outside.specs.Device.{DeviceState}
-use Rattle.rocks_outside.specs.Shelf.{ShelfState}
 use Rattle.tree_model.specs.Rock.{Rock}
-use Rattle.rocks_session.specs.Execute.{IsModels, CarriesOut, Executes, outcome_of}
-use Rattle.rocks_session.specs.Opened.{IsOpenAs}
+use Rattle.rocks_session.specs.Execute.{IsModels, outcome_of}
 use Rattle.rocks_session.specs.Search.{IsFoundIn}
-use Rattle.rocks_session.specs.Staged.{Asks}
 use Rattle.rocks_session.specs.Step.{Outcome, refused, refusal_text, too_long}
 use Rattle.rocks_session.specs.Unpacked.{earliest_with, earliest_at, is_file_within}
 use Rattle.rocks_session.specs.declared.eval.TheConstants.{LONGEST_TEXT}
-use Rattle.rocks_session.specs.declared.fault.SessionFault.{SessionFault}
 use Rattle.rocks_session.specs.declared.reply.Refusal.{Refusal}
 use Rattle.rocks_session.specs.declared.reply.Reply.{Reply}
 use Rattle.rocks_session.specs.declared.search.Found.TheVariants.{TooLong}
-use Rattle.rocks_version.specs.declared.key.RockKey.{RockKey}
 use Rattle.rocks_command.specs.declared.command.Command.TheVariants.{Eval}
-use Rattle.rocks_session.proofs.Adding.{answered, broken_off}
-use Rattle.rocks_session.proofs.Asking.{stays_asked}
-use Rattle.rocks_session.proofs.Writing.{no_tick}
 
 -- a reply that is a refusal
 pub refuses : (set : List Rock) (refusal : Refusal) (reply : Reply) → reply.refusal ≡ Some refusal → reply.text ≡ refusal_text refusal → outcome_of set reply ≡ refused set refusal
 refuses set refusal reply is says = λ i. record { set = set; refusal = is i; text = says i }
 
 -- the bytes of the file that was found
-bytes_at : (path : List ℕ) (servers : List Files) (files : Files) (held : Option (List ℕ)) → earliest_with path servers ≡ Some files → get files path ≡ held → earliest_at path servers ≡ held
+pub bytes_at : (path : List ℕ) (servers : List Files) (files : Files) (held : Option (List ℕ)) → earliest_with path servers ≡ Some files → get files path ≡ held → earliest_at path servers ≡ held
 bytes_at path servers files held first at = ap (option_and_then (λ (f : Files). get f path)) first ∙ at
 
-is_long : (held : Option (List ℕ)) → is_file_within LONGEST_TEXT held ≡ false → (text : List ℕ) → held ≡ Some text → LONGEST_TEXT < length text
-is_long None within text is = cc
-is_long (Some other) within text is = let same : other ≡ text = cc in grind (arith, nat_tests, ap length same)
+pub is_long : (limit : ℕ) (held : Option (List ℕ)) → is_file_within limit held ≡ false → (text : List ℕ) → held ≡ Some text → limit < length text
+is_long limit None within text is = cc
+is_long limit (Some other) within text is = let same : other ≡ text = cc in grind (arith, nat_tests, ap length same)
 
 module _ (path : List ℕ) (set : List Rock) where
   -- the model's only outcome, where the file is too long
@@ -48,28 +39,9 @@ module _ (path : List ℕ) (set : List Rock) where
       from None at = let there : false ≡ true = sym (ap is_some at) ∙ found.2 in cc
       from (Some text) at =
           let e : earliest_at path servers ≡ Some text = bytes_at path servers found.0 (Some text) found.1 at in
-          let long : LONGEST_TEXT < length text = is_long (get found.0 path) found.3 text at in
+          let long : LONGEST_TEXT < length text = is_long LONGEST_TEXT (get found.0 path) found.3 text at in
           record {
             told = rw e (inl (long, is));
             only = λ other step. ⊎_elim (λ so. so.1 ∙ sym is) (λ so. absurd (omega (arith, so.0, long))) (rw e at step);
             own = inr (Err (Lex (lex.TooLong (LONGEST_TEXT + 1))), is);
           }
-
--- ---- after the command
-
-module _ (path : List ℕ) (keys : List RockKey) (device : DeviceState) (shelf_before shelf_now : ShelfState) where
-  carries : (reply : Reply) → ((set : List Rock) → IsModels (Eval path) set shelf_before.holds (outcome_of set reply)) → (set : List Rock) → IsOpenAs set keys device → CarriesOut (Eval path) set shelf_before.holds reply keys device device
-  carries reply model set opened = record {
-    outcome = outcome_of set reply;
-    model = model set;
-    refusal = refl;
-    text = refl;
-    tree = opened.tree;
-    files = opened.opens.files;
-    clock = no_tick device.files device.clock set (outcome_of set reply) refl;
-  }
-
-  -- `eval` leaves the device as it was, whatever comes of it
-  pub evaluates : (result : Result Reply SessionFault) → IfOk result (λ reply. (set : List Rock) → IsModels (Eval path) set shelf_before.holds (outcome_of set reply)) → Asks result shelf_before shelf_now → Executes (Eval path) result keys keys device device shelf_before shelf_now
-  evaluates (Ok reply) model asks = answered (Eval path) keys device shelf_before shelf_now reply (stays_asked asks) (carries reply model)
-  evaluates (Err fault) model asks = broken_off (Eval path) keys device shelf_before shelf_now fault (stays_asked asks) asks.cause

@@ -24,7 +24,8 @@ use Rattle.rocks_outside.proofs.Held.{sorted_from_ascending}
 use Rattle.tree_paths.proofs.PlacePaths.{both}
 use Rattle.tree_paths.specs.Places.{plain_path}
 use Rattle.tree_model.specs.Rock.{Rock}
-use Rattle.tree_model.specs.Tree.{rockspec_name, rockspec_path, HaveOwnPaths}
+use Rattle.tree_model.specs.Tree.{rockspec_path, HaveOwnPaths}
+use Rattle.rocks_version.specs.Keys.{rockspec_name}
 use Rattle.rocks_session.specs.Unpacked.{unpacked_folder, unpacked_path, unpacked_rockspec, is_file_within, is_taken, is_whole_taken, module_at, item_at}
 use Rattle.rocks_session.specs.Staged.{file_of, placed, AreTaken, IsNotTaken, IsFolderOffer, IsModule, StandFor}
 use Rattle.rocks_session.specs.declared.take.Offer.TheVariants.{Rock as Ready}

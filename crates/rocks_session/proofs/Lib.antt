@@ -6,6 +6,7 @@ mod Complete
 mod Evaluating
 mod Folder
 mod Installed
+mod Linting
 mod Listed
 mod Listing
 mod Offers
@@ -15,4 +16,5 @@ mod Put
 mod Servers
 mod Steps
 mod Strip
+mod Telling
 mod Writing

@@ -11,7 +11,7 @@ use Rattle.std.specs.FinMap.{get, contains_key, keys, contains_key-keys}
 use Rattle.rocks_text.specs.Files.{Files, path_cmp}
 use Rattle.rocks_text.specs.Paths.{below}
 use Rattle.tree_model.proofs.PathTies.{by_bool, tied}
-use Rattle.tree_model.specs.Tree.{rockspec_name}
+use Rattle.rocks_version.specs.Keys.{rockspec_name}
 use Rattle.rocks_session.specs.Unpacked.{unpacked_folder, unpacked_rockspec, is_file_within, is_taken, is_whole_taken}
 use Rattle.rocks_session.specs.Search.{IsFoundIn}
 use Rattle.rocks_session.specs.Staged.{IsOffer, FolderOffers}

@@ -8,7 +8,8 @@ use Rattle.std.specs.List.{list_all, All}
 use Rattle.std.specs.Char.{is_ascii_alphanumeric}
 use Rattle.std.specs.Str.{bytes_eq}
 use Rattle.rocks_text.specs.Texts.{is_name_byte, is_name, is_part_byte, is_part, parts, is_file_path, is_tree_path}
-use Rattle.tree_model.specs.Tree.{rockspec_name, rockspec_path}
+use Rattle.tree_model.specs.Tree.{rockspec_path}
+use Rattle.rocks_version.specs.Keys.{rockspec_name}
 use Rattle.tree_paths.proofs.PlacePaths.{conj, both}
 use Rattle.rocks_session.specs.Unpacked.{unpacked_folder, unpacked_rockspec}
 use Rattle.rocks_version.specs.Texts.{is_version, is_version_byte, has_form, has_short_numbers}
@@ -121,10 +122,16 @@ module _ (name version : List ℕ) (is_named : IsWord 60 name) (is_versioned : I
   rockspec_word : IsWord 110 (rockspec_name name version)
   rockspec_word = joined (codes ".rockspec") (lit≤ tt) refl
 
+  file_path : (text : List ℕ) → IsWord 110 text → IsTrue (is_file_path text)
+  file_path text word =
+      let few : nat_le (length text) 1024 ≡ true = let h = word.few in grind (arith, nat_tests) in
+      both _ _ few (ap (list_all (is_part 150)) (parts_one 110 text word) ∙ both _ _ (word_part 110 150 text word (lit≤ tt)) refl)
+
   pub folder_path : IsTrue (is_file_path (unpacked_folder name version))
-  folder_path =
-      let few : nat_le (length (unpacked_folder name version)) 1024 ≡ true = let h = folder_word.few in grind (arith, nat_tests) in
-      both _ _ few (ap (list_all (is_part 150)) (parts_one 110 (unpacked_folder name version) folder_word) ∙ both _ _ (word_part 110 150 _ folder_word (lit≤ tt)) refl)
+  folder_path = file_path (unpacked_folder name version) folder_word
+
+  pub rockspec_file : IsTrue (is_file_path (rockspec_name name version))
+  rockspec_file = file_path (rockspec_name name version) rockspec_word
 
   pub rockspec_in_folder : IsTrue (is_file_path (unpacked_rockspec name version))
   rockspec_in_folder =

@@ -13,7 +13,7 @@ use Rattle.rocks_session.specs.declared.fault.SessionFault.TheVariants.{ShelfFau
 use Rattle.rocks_session.specs.declared.reply.Reply.{Reply}
 use Rattle.rocks_version.specs.declared.key.RockKey.{RockKey}
 use Rattle.rocks_command.specs.declared.command.Command.{Command}
-use Rattle.rocks_command.specs.declared.command.Command.TheVariants.{Add, Compare, Eval}
+use Rattle.rocks_command.specs.declared.command.Command.TheVariants.{Add, Compare, Eval, Lint}
 
 -- An outcome of the command over a set: the model's only one where the shelf tells what the servers hold, and one that
 -- the command can have whatever they hold.
@@ -59,6 +59,7 @@ abbrev pub IsReadOnly : Command → Type 0
 IsReadOnly (Add key) = ⊥
 IsReadOnly (Eval path) = Unit {0}
 IsReadOnly (Compare left right) = Unit {0}
+IsReadOnly (Lint key) = Unit {0}
 
 -- a command over a tree that was opened, a device and a shelf
 pub record Executes (command : Command) (result : Result Reply SessionFault) (keys_before keys_now : List RockKey) (before now : DeviceState) (shelf_before shelf_now : ShelfState) : Type 0 where

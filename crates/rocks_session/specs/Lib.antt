@@ -7,6 +7,7 @@ pub use Rattle.tree_model.specs.Tree
 pub mod Evaluated
 pub mod Execute
 pub mod Faults
+pub mod Linted
 pub mod Opened
 pub mod Run
 pub mod Search

@@ -7,7 +7,8 @@ use Rattle.tree_model.specs.Tree.{tree_of}
 use Rattle.rocks_session.specs.Step.{key_of}
 use Rattle.rocks_version.specs.declared.key.RockKey.{RockKey}
 
--- The files, where they are told, are those of the set. Until the records of rocks are written, only the empty set opens.
+-- The files, where they are told, are those of the set. Until the records of rocks are written, only the empty set
+-- opens.
 pub record Opens (found : Option Files) (set : List Rock) : Type 0 where
   pub empty : set ≡ []
   pub files : IfSome found (λ files. files ≡ tree_of set)

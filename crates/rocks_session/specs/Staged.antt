@@ -13,7 +13,8 @@ use Rattle.rocks_outside.specs.Told.{WhereTold}
 use Rattle.rocks_outside.specs.declared.fault.DeviceError.{DeviceError}
 use Rattle.rocks_outside.specs.declared.fault.DeviceError.TheVariants.{Failed}
 use Rattle.tree_paths.specs.Places.{plain_path}
-use Rattle.tree_model.specs.Tree.{files_of, rockspec_name, rockspec_path, HaveOwnPaths}
+use Rattle.tree_model.specs.Tree.{files_of, rockspec_path, HaveOwnPaths}
+use Rattle.rocks_version.specs.Keys.{rockspec_name}
 use Rattle.rocks_session.specs.Faults.{IsShelfFault, IsDeviceFault}
 use Rattle.rocks_session.specs.Unpacked.{offering, is_whole_taken, is_file_within, is_taken, module_at, item_at, unpacked, unpacked_folder, unpacked_rockspec}
 use Rattle.rocks_session.specs.declared.fault.SessionFault.{SessionFault}

@@ -11,7 +11,7 @@ use Rattle.rocks_text.specs.declared.item.Item.{Item}
 use Rattle.rocks_text.specs.declared.item.Kind.TheVariants.{Lua}
 use Rattle.rocks_outside.specs.Shelf.{paths_below}
 use Rattle.tree_model.specs.Rock.{Rock}
-use Rattle.tree_model.specs.Tree.{rockspec_name}
+use Rattle.rocks_version.specs.Keys.{rockspec_name}
 use Rattle.rocks_session.specs.declared.take.TheConstants.{LONGEST_ROCKSPEC, LONGEST_FILE}
 
 -- NAME-VERSION.rock

@@ -6,6 +6,7 @@ ghost use Rattle.rocks_session.specs.Opened.{IsOpenAs};
 use crate::add::add;
 use crate::compare::compare;
 use crate::eval::eval;
+use crate::lint::lint;
 use crate::{Command, Reply, SessionFault, Tree};
 use rocks_outside::{Device, Shelf};
 use std::alloc::Global;
@@ -13,7 +14,7 @@ use std::alloc::Global;
 /// Carries one command out on a tree that was opened, over the servers of a shelf. All files of a rock are read
 /// before the first one is written; then they are written, and synced.
 ///
-/// A refusal changes no file and not the tree, and neither do `eval` and `compare`, whatever they answer.
+/// A refusal changes no file and not the tree, and neither do `lint`, `eval` and `compare`, whatever they answer.
 /// `DeviceFault` and `ShelfFault` come only where the device or the shelf failed in the call, and `NoMemory` where
 /// memory runs out. After `ShelfFault` all is as before; after the others the device is opened again.
 pub fn execute<V: Device, F: Shelf>(
@@ -29,6 +30,7 @@ pub fn execute<V: Device, F: Shelf>(
 {
     match command {
         Command::Add(key) => add(alloc, tree, device, shelf, key),
+        Command::Lint(key) => lint(alloc, shelf, key),
         Command::Eval(path) => eval(alloc, shelf, path),
         Command::Compare(left, right) => Ok(compare(alloc, left, right)?),
     }

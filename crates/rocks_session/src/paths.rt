@@ -1,9 +1,10 @@
 // The paths of an unpacked rock's folder, and the places of its files in a tree.
 ghost use Rattle.std.specs.Prelude.{◌≡◌, ◌++◌, IfOk, MatchOption, true, false};
-ghost use Rattle.std.specs.Prelude.{codes, drop, string_bytes};
+ghost use Rattle.std.specs.Prelude.{codes, drop};
 ghost use Rattle.std.specs.List.{starts_with};
 ghost use Rattle.std.specs.Bool.{nat_eq};
-ghost use Rattle.tree_model.specs.Tree.{rockspec_name, rockspec_path};
+ghost use Rattle.rocks_version.specs.Keys.{rockspec_name};
+ghost use Rattle.tree_model.specs.Tree.{rockspec_path};
 ghost use Rattle.rocks_session.specs.Unpacked.{unpacked_folder, unpacked_rockspec};
 
 use crate::RockKey;
@@ -21,14 +22,16 @@ pub(crate) fn unpacked_folder(alloc: Global, key: &RockKey) -> Result<FilePath, 
 }
 
 /// `NAME-VERSION.rockspec`
-pub(crate) fn rockspec_name(alloc: Global, key: &RockKey) -> Result<String, AllocError>
-    ensures { IfOk result
-        (λ text. string_bytes text ≡ rockspec_name key.now.name key.now.version) }
+pub(crate) fn served_rockspec(alloc: Global, key: &RockKey) -> Result<FilePath, AllocError>
+    ensures { IfOk result (λ path. path ≡ rockspec_name key.now.name key.now.version) }
 {
-    tree_model::rockspec_name(alloc, key.name.as_str(), key.version.as_str())
+    let name = key.name.as_str();
+    let version = key.version.as_str();
+    let text = format!(in alloc; "{name}-{version}.rockspec")?;
+    FilePath::known(alloc, &text)
 }
 
-/// The rockspec in that folder.
+/// The rockspec in the folder of the unpacked rock.
 pub(crate) fn unpacked_rockspec(alloc: Global, key: &RockKey) -> Result<FilePath, AllocError>
     ensures { IfOk result (λ path. path ≡ unpacked_rockspec key.now.name key.now.version) }
 {

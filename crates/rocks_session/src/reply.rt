@@ -1,10 +1,13 @@
 ghost use Rattle.std.specs.Prelude.{◌≡◌, ◌++◌, codes, IfOk, Some};
 ghost use Rattle.lua_text.specs.Texts.{fault_text};
 ghost use Rattle.rocks_session.specs.Step.{refusal_text, added_text, key_text};
+ghost use Rattle.rocks_session.specs.Step.{build_failed_text, fault_line};
 
 use crate::{EvalFailed, RockKey};
+use build_plan::PlanFault;
 use rocks_bytes::Bytes;
 use rocks_text::FilePath;
+use rockspec::SpecFault;
 use std::alloc::{AllocError, Global};
 
 /// Why a command was refused. A refused command changes no file.
@@ -21,6 +24,32 @@ pub enum Refusal {
     NoFile { path: FilePath },
     /// The file's text has no globals.
     Lua { fault: EvalFailed },
+    /// No server has the rock's rockspec.
+    NoRockspec { key: RockKey },
+    /// The file is no rockspec.
+    Spec { key: RockKey, fault: SpecFault },
+    /// The rockspec has another name or version.
+    NotTheRock { key: RockKey },
+    /// The rock can't be built.
+    Build { key: RockKey, fault: BuildFailed },
+}
+
+/// Why a rock can't be built.
+#[derive(Debug, Drop)]
+pub enum BuildFailed {
+    /// Its rockspec has no build plan.
+    Plan(PlanFault),
+}
+
+impl BuildFailed {
+    /// The fault as replies tell it: that of a plan is told as it is. The only error is want of memory.
+    pub fn text(&self, alloc: Global) -> Result<Bytes, AllocError>
+        ensures { IfOk result (λ text. text ≡ build_failed_text self.now) }
+    {
+        match self {
+            BuildFailed::Plan(fault) => fault.text(alloc),
+        }
+    }
 }
 
 /// The answer to one command.
@@ -63,6 +92,10 @@ fn refusal_text(alloc: Global, refusal: &Refusal) -> Result<Bytes, AllocError>
         Refusal::NotServed { key } => refused_key(alloc, "NotServed", key),
         Refusal::NoFile { path } => refused_path(alloc, path),
         Refusal::Lua { fault } => refused_text(alloc, fault),
+        Refusal::NoRockspec { key } => refused_key(alloc, "NoRockspec", key),
+        Refusal::Spec { key, fault } => refused_fault(alloc, "Spec", key, &fault.text(alloc)?),
+        Refusal::NotTheRock { key } => refused_key(alloc, "NotTheRock", key),
+        Refusal::Build { key, fault } => refused_fault(alloc, "Build", key, &fault.text(alloc)?),
     }
 }
 
@@ -73,6 +106,22 @@ fn refused_key(alloc: Global, code: &str, key: &RockKey) -> Result<Bytes, AllocE
     let name = key.name.as_str();
     let version = key.version.as_str();
     Ok(Bytes::from(format!(in alloc; "refused {code} {name} {version}\n")?.into_bytes()))
+}
+
+fn refused_fault(
+    alloc: Global,
+    code: &str,
+    key: &RockKey,
+    fault: &Bytes,
+) -> Result<Bytes, AllocError>
+    ensures { IfOk result (λ text. text ≡ fault_line code.now key.now fault.now) }
+{
+    let name = key.name.as_str();
+    let version = key.version.as_str();
+    let mut text = format!(in alloc; "refused {code} {name} {version} ")?.into_bytes();
+    text.extend_from_slice(fault.as_slice())?;
+    text.extend_from_slice(b"\n")?;
+    Ok(Bytes::from(text))
 }
 
 fn refused_path(alloc: Global, path: &FilePath) -> Result<Bytes, AllocError>

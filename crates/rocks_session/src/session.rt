@@ -1,5 +1,6 @@
 ghost use Rattle.std.specs.Prelude.{◌≡◌, ◌⊎◌, List, map, IfSome, IsErr, Ok, Some, string_bytes};
 ghost use Rattle.rocks_outside.specs.Counts.{HasRisen};
+ghost use Rattle.rocks_outside.specs.Device.{SaysOnly};
 ghost use Rattle.rocks_version.specs.declared.key.RockKey.{RockKey};
 ghost use Rattle.tree_model.specs.Rock.{Rock};
 ghost use Rattle.rocks_session.specs.Execute.{Executes, IsReadOnly};
@@ -96,8 +97,9 @@ pub fn run<V: Device, F: Shelf, I: Source>(
         Err(SessionFault::ShelfFault) => return Status::ShelfFault,
         Err(SessionFault::NoMemory) => return Status::NoMemory,
     };
-    match device.say(reply.text.as_slice()) {
-        Ok(()) if reply.refusal.is_some() => Status::Refused,
+    let is_refused = reply.refusal.is_some();
+    match say(device, reply) {
+        Ok(()) if is_refused => Status::Refused,
         Ok(()) => Status::Done,
         Err(DeviceError::Failed) => Status::DeviceFault,
         Err(DeviceError::NoMemory) => Status::NoMemory,
@@ -118,4 +120,11 @@ fn carry_out<V: Device, F: Shelf>(
 {
     let mut tree = tree;
     execute(alloc, &mut tree, device, shelf, &command)
+}
+
+// Says a reply, and lets it go.
+fn say<V: Device>(device: &mut V, reply: Reply) -> Result<(), DeviceError>
+    ensures { SaysOnly result reply.text (V.state device.old) (V.state device.new) }
+{
+    device.say(reply.text.as_slice())
 }

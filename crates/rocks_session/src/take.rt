@@ -10,14 +10,13 @@ ghost use Rattle.rocks_session.specs.Staged.{Asks, IsSound, IsOffer, FolderOffer
 ghost use Rattle.rocks_session.specs.Staged.{IsModule, IsFolderOfKey};
 ghost use Rattle.rocks_session.specs.Staged.{AreTaken, IsNotTaken};
 
-use crate::paths::{
-    module_place, rockspec_name, rockspec_place, unpacked_folder, unpacked_rockspec,
-};
+use crate::paths::{module_place, rockspec_place, unpacked_folder, unpacked_rockspec};
 use crate::search::{Found, find};
 use crate::{RockKey, SessionFault};
 use rocks_bytes::Bytes;
 use rocks_outside::{Shelf, ShelfRead};
 use rocks_text::{FilePath, TreePath};
+use rocks_version::rockspec_name;
 use std::alloc::Global;
 
 /// The longest rockspec, in bytes.

@@ -3,6 +3,7 @@
 mod comparison;
 mod evaluation;
 mod failing;
+mod linting;
 
 use failing::{FailingDevice, FailingShelf};
 use rocks_outside::{Device, MemoryDevice, MemoryShelf, MemorySource, Shelf};

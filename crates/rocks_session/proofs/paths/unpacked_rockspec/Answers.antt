@@ -1,7 +1,7 @@
 use Rattle.std.proofs.Common.{IsTrue, List, ℕ, ◌≡◌, ◌++◌, refl, sym, ap, subst, ◌∙◌, codes, append_assoc}
 use Rattle.std.proofs.lemmas.Result.{IfOk-weaker}
 use Rattle.rocks_text.specs.Texts.{is_file_path}
-use Rattle.tree_model.specs.Tree.{rockspec_name}
+use Rattle.rocks_version.specs.Keys.{rockspec_name}
 use Rattle.rocks_session.specs.Unpacked.{unpacked_rockspec}
 use Rattle.rocks_session.proofs.PathTexts.{name_word, version_word, rockspec_in_folder}
 use Rattle.rocks_session.proofs.paths.unpacked_rockspec.Goals as goal

@@ -29,13 +29,13 @@ returns-in-Ok-say-clause-carried g c =
     let first = g.V.Device.state c.args.device.now in
     let mid = g.V.Device.state c.open.new.device in
     let exec = g.V.Device.state c.carry_out.new.device in
-    let now = g.V.Device.state c.say.new.self in
+    let now = g.V.Device.state c.say.new.device in
     let holds = (g.F.Shelf.state c.args.shelf.now).holds in
     λ _. (
       c.in-Ok.command,
       c.in-Ok.ensures,
       runs c.in-Ok.command holds c.in-Ok-carry_out.reply c.in-Ok-open.tree c.in-Ok-carry_out.ensures.0 first mid exec now c.open.ensures.left c.in-Ok-open.ensures.only c.in-Ok-carry_out.ensures.1.carried c.carry_out.ensures.1.keeps.said
-          Refused c.as_slice.result.now c.in-Ok-say.field-0 (g.met.V.Device.tells c.args.device.now c.carry_out.new.device) c.as_slice.ensures c.in-Ok-say.ensures (refused_ends c.in-Ok-carry_out.reply.refusal (sym c.is_some.ensures ∙ c.if-is_some.true)),
+          Refused c.in-Ok-carry_out.reply.text c.in-Ok-say.field-0 (g.met.V.Device.tells c.args.device.now c.carry_out.new.device) refl c.in-Ok-say.ensures (refused_ends c.in-Ok-carry_out.reply.refusal (sym c.is_some-is_refused.ensures ∙ c.if-is_refused.true)),
     )
 
 pub returns-in-Ok-say-clause-said : goal.returns-in-Ok-say-clause-said
@@ -43,23 +43,23 @@ returns-in-Ok-say-clause-said g c =
     let first = g.V.Device.state c.args.device.now in
     let mid = g.V.Device.state c.open.new.device in
     let exec = g.V.Device.state c.carry_out.new.device in
-    let now = g.V.Device.state c.say.new.self in
+    let now = g.V.Device.state c.say.new.device in
     let holds = (g.F.Shelf.state c.args.shelf.now).holds in
     says_all c.in-Ok.command holds c.in-Ok-carry_out.reply c.in-Ok-open.tree c.in-Ok-carry_out.ensures.0 first mid exec now c.open.ensures.left c.in-Ok-open.ensures.only c.in-Ok-carry_out.ensures.1.carried c.carry_out.ensures.1.keeps.said
-    _ c.as_slice.result.now c.in-Ok-say.field-0 c.in-Ok.ensures c.as_slice.ensures c.in-Ok-say.ensures
+    _ c.in-Ok-carry_out.reply.text c.in-Ok-say.field-0 c.in-Ok.ensures refl c.in-Ok-say.ensures
 
 pub returns-in-Ok-2-clause-carried : goal.returns-in-Ok-2-clause-carried
 returns-in-Ok-2-clause-carried g c =
     let first = g.V.Device.state c.args.device.now in
     let mid = g.V.Device.state c.open.new.device in
     let exec = g.V.Device.state c.carry_out.new.device in
-    let now = g.V.Device.state c.say.new.self in
+    let now = g.V.Device.state c.say.new.device in
     let holds = (g.F.Shelf.state c.args.shelf.now).holds in
     λ _. (
       c.in-Ok.command,
       c.in-Ok.ensures,
       runs c.in-Ok.command holds c.in-Ok-carry_out.reply c.in-Ok-open.tree c.in-Ok-carry_out.ensures.0 first mid exec now c.open.ensures.left c.in-Ok-open.ensures.only c.in-Ok-carry_out.ensures.1.carried c.carry_out.ensures.1.keeps.said
-          Done c.as_slice.result.now c.in-Ok-2.field-0 (g.met.V.Device.tells c.args.device.now c.carry_out.new.device) c.as_slice.ensures c.in-Ok-2.ensures (done_ends c.in-Ok-carry_out.reply.refusal (sym c.is_some.ensures ∙ c.if-is_some.false)),
+          Done c.in-Ok-carry_out.reply.text c.in-Ok-2.field-0 (g.met.V.Device.tells c.args.device.now c.carry_out.new.device) refl c.in-Ok-2.ensures (done_ends c.in-Ok-carry_out.reply.refusal (sym c.is_some-is_refused.ensures ∙ c.if-is_refused.false)),
     )
 
 pub returns-in-Ok-2-clause-said : goal.returns-in-Ok-2-clause-said
@@ -67,30 +67,30 @@ returns-in-Ok-2-clause-said g c =
     let first = g.V.Device.state c.args.device.now in
     let mid = g.V.Device.state c.open.new.device in
     let exec = g.V.Device.state c.carry_out.new.device in
-    let now = g.V.Device.state c.say.new.self in
+    let now = g.V.Device.state c.say.new.device in
     let holds = (g.F.Shelf.state c.args.shelf.now).holds in
     says_all c.in-Ok.command holds c.in-Ok-carry_out.reply c.in-Ok-open.tree c.in-Ok-carry_out.ensures.0 first mid exec now c.open.ensures.left c.in-Ok-open.ensures.only c.in-Ok-carry_out.ensures.1.carried c.carry_out.ensures.1.keeps.said
-    _ c.as_slice.result.now c.in-Ok-2.field-0 c.in-Ok.ensures c.as_slice.ensures c.in-Ok-2.ensures
+    _ c.in-Ok-carry_out.reply.text c.in-Ok-2.field-0 c.in-Ok.ensures refl c.in-Ok-2.ensures
 
 pub returns-in-Err-Failed-clause-said : goal.returns-in-Err-Failed-clause-said
 returns-in-Err-Failed-clause-said g c =
     let first = g.V.Device.state c.args.device.now in
     let mid = g.V.Device.state c.open.new.device in
     let exec = g.V.Device.state c.carry_out.new.device in
-    let now = g.V.Device.state c.say.new.self in
+    let now = g.V.Device.state c.say.new.device in
     let holds = (g.F.Shelf.state c.args.shelf.now).holds in
     says_some c.in-Ok.command holds c.in-Ok-carry_out.reply c.in-Ok-open.tree c.in-Ok-carry_out.ensures.0 first mid exec now c.open.ensures.left c.in-Ok-open.ensures.only c.in-Ok-carry_out.ensures.1.carried c.carry_out.ensures.1.keeps.said
-    _ c.as_slice.result.now c.in-Err-Failed.field-0 c.in-Err-Failed.field-0-is c.in-Ok.ensures c.as_slice.ensures c.in-Err-Failed.ensures
+    _ c.in-Ok-carry_out.reply.text c.in-Err-Failed.field-0 c.in-Err-Failed.field-0-is c.in-Ok.ensures refl c.in-Err-Failed.ensures
 
-pub returns-clause-said : goal.returns-clause-said
-returns-clause-said g c =
+pub returns-in-Err-NoMemory-say-clause-said : goal.returns-in-Err-NoMemory-say-clause-said
+returns-in-Err-NoMemory-say-clause-said g c =
     let first = g.V.Device.state c.args.device.now in
     let mid = g.V.Device.state c.open.new.device in
     let exec = g.V.Device.state c.carry_out.new.device in
-    let now = g.V.Device.state c.say.new.self in
+    let now = g.V.Device.state c.say.new.device in
     let holds = (g.F.Shelf.state c.args.shelf.now).holds in
     says_none c.in-Ok.command holds c.in-Ok-carry_out.reply c.in-Ok-open.tree c.in-Ok-carry_out.ensures.0 first mid exec now c.open.ensures.left c.in-Ok-open.ensures.only c.in-Ok-carry_out.ensures.1.carried c.carry_out.ensures.1.keeps.said
-    _ c.as_slice.result.now c.in-Err-NoMemory-say.field-0 c.in-Err-NoMemory-say.field-0-is c.in-Err-NoMemory-say.ensures
+    _ c.in-Ok-carry_out.reply.text c.in-Err-NoMemory-say.field-0 c.in-Err-NoMemory-say.field-0-is c.in-Err-NoMemory-say.ensures
 
 pub returns-in-Err-Damaged-clause-complete : goal.returns-in-Err-Damaged-clause-complete
 returns-in-Err-Damaged-clause-complete g c = λ command set _.
@@ -109,7 +109,7 @@ returns-in-Err-Failed-clause-complete g c = λ command set _.
     let first = (g.V.Device.state c.args.device.now).faults in
     let mid = (g.V.Device.state c.open.new.device).faults in
     let exec = (g.V.Device.state c.carry_out.new.device).faults in
-    let now = (g.V.Device.state c.say.new.self).faults in
+    let now = (g.V.Device.state c.say.new.device).faults in
     anyway (g.V.Device.state c.args.device.now).files set _ _ DeviceFault
     (inr (inr (inl (risen_since first mid exec now c.open.ensures.faults c.carry_out.ensures.1.keeps.device_faults (fault_risen {T = Unit {0}} (Err c.in-Err-Failed.field-0) exec exec now (omega arith) c.in-Err-Failed.ensures.faults (ap Err c.in-Err-Failed.field-0-is))))))
 
@@ -131,22 +131,22 @@ returns-in-Err-NoMemory-carry_out-clause-read_only g c = λ command is reads.
 pub returns-in-Ok-say-clause-read_only : goal.returns-in-Ok-say-clause-read_only
 returns-in-Ok-say-clause-read_only g c = λ command is reads.
     only_said _ c.in-Ok.command command c.in-Ok-open.tree c.carry_out.ensures.0 (g.V.Device.state c.args.device.now) (g.V.Device.state c.open.new.device) (g.V.Device.state c.carry_out.new.device)
-    c.open.ensures.left c.carry_out.ensures.1.untouched c.in-Ok.ensures is reads _ c.as_slice.result.now (g.V.Device.state c.say.new.self) c.in-Ok-say.ensures
+    c.open.ensures.left c.carry_out.ensures.1.untouched c.in-Ok.ensures is reads _ c.in-Ok-carry_out.reply.text (g.V.Device.state c.say.new.device) c.in-Ok-say.ensures
 
 pub returns-in-Ok-2-clause-read_only : goal.returns-in-Ok-2-clause-read_only
 returns-in-Ok-2-clause-read_only g c = λ command is reads.
     only_said _ c.in-Ok.command command c.in-Ok-open.tree c.carry_out.ensures.0 (g.V.Device.state c.args.device.now) (g.V.Device.state c.open.new.device) (g.V.Device.state c.carry_out.new.device)
-    c.open.ensures.left c.carry_out.ensures.1.untouched c.in-Ok.ensures is reads _ c.as_slice.result.now (g.V.Device.state c.say.new.self) c.in-Ok-2.ensures
+    c.open.ensures.left c.carry_out.ensures.1.untouched c.in-Ok.ensures is reads _ c.in-Ok-carry_out.reply.text (g.V.Device.state c.say.new.device) c.in-Ok-2.ensures
 
 pub returns-in-Err-Failed-clause-read_only : goal.returns-in-Err-Failed-clause-read_only
 returns-in-Err-Failed-clause-read_only g c = λ command is reads.
     only_said _ c.in-Ok.command command c.in-Ok-open.tree c.carry_out.ensures.0 (g.V.Device.state c.args.device.now) (g.V.Device.state c.open.new.device) (g.V.Device.state c.carry_out.new.device)
-    c.open.ensures.left c.carry_out.ensures.1.untouched c.in-Ok.ensures is reads _ c.as_slice.result.now (g.V.Device.state c.say.new.self) c.in-Err-Failed.ensures
+    c.open.ensures.left c.carry_out.ensures.1.untouched c.in-Ok.ensures is reads _ c.in-Ok-carry_out.reply.text (g.V.Device.state c.say.new.device) c.in-Err-Failed.ensures
 
-pub returns-clause-read_only : goal.returns-clause-read_only
-returns-clause-read_only g c = λ command is reads.
+pub returns-in-Err-NoMemory-say-clause-read_only : goal.returns-in-Err-NoMemory-say-clause-read_only
+returns-in-Err-NoMemory-say-clause-read_only g c = λ command is reads.
     only_said _ c.in-Ok.command command c.in-Ok-open.tree c.carry_out.ensures.0 (g.V.Device.state c.args.device.now) (g.V.Device.state c.open.new.device) (g.V.Device.state c.carry_out.new.device)
-    c.open.ensures.left c.carry_out.ensures.1.untouched c.in-Ok.ensures is reads _ c.as_slice.result.now (g.V.Device.state c.say.new.self) c.in-Err-NoMemory-say.ensures
+    c.open.ensures.left c.carry_out.ensures.1.untouched c.in-Ok.ensures is reads _ c.in-Ok-carry_out.reply.text (g.V.Device.state c.say.new.device) c.in-Err-NoMemory-say.ensures
 
 pub returns-in-Err-Damaged-clause-read_only : goal.returns-in-Err-Damaged-clause-read_only
 returns-in-Err-Damaged-clause-read_only g c = λ command is reads. only_opened (g.V.Device.state c.args.device.now) (g.V.Device.state c.open.new.device) c.open.ensures.left

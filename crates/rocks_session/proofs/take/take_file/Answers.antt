@@ -2,7 +2,7 @@ use Rattle.std.proofs.Common.{◌≡◌, true, false, sym, subst, ◌∙◌, ◌
 use Rattle.rocks_outside.specs.Shelf.{held_at}
 use Rattle.rocks_session.specs.Staged.{IsModule}
 use Rattle.std.specs.Str.{bytes_eq}
-use Rattle.tree_model.specs.Tree.{rockspec_name}
+use Rattle.rocks_version.specs.Keys.{rockspec_name}
 use Rattle.rocks_session.proofs.Folder.{spec_passed, module_taken}
 use Rattle.rocks_session.proofs.take.take_file.Goals as goal
 
