@@ -4,6 +4,8 @@ local cfg = require("luarocks.core.cfg")
 cfg.arch = cfg.arch or "linux-x86_64"
 local vers = require("luarocks.core.vers")
 local queries = require("luarocks.queries")
+package.path = arg[0]:gsub("[^/]*$", "?.lua;") .. package.path
+local is_otherwise_read = require("dependency_texts").is_otherwise_read
 math.randomseed(seed)
 local random = math.random
 
@@ -201,19 +203,6 @@ local function dependency_text()
       text = text .. constraint_text()
    end
    return text .. mostly({ "", " ", ",", ", ," }, { "/", "\n" })
-end
-
--- What docs/MANUAL.md lists as refused that LuaRocks takes.
-local function is_otherwise_read(text)
-   if text:find("/") then return "a namespace or a slash" end
-   if text:find("@") then return "an @" end
-   if text:find("[\n\r\v\f]") then return "white space other than blanks and tabs" end
-   local name = text:match("^[ \t]*([%w%._%-]*)")
-   if name:lower() == "manifest" or name:match("^[%._%-]") then return "a name" end
-   for version in text:sub(#text:match("^[ \t]*[%w%._%-]*") + 1):gmatch("[%w%._%-]+") do
-      if version:match("^[%._%-]") or #version > 40 then return "a version" end
-      if version:match(("%d"):rep(19)) then return "a number" end
-   end
 end
 
 local function printed(query)
