@@ -59,43 +59,67 @@ fn dependencies_are_read(rt: HostRuntime) -> Result<(), Fail> {
 }
 
 const BAD: &[Case] = &[
-    ("dependencies = {''}", "0 BadDependency 0"),
-    ("dependencies = {'lua !'}", "0 BadOperator 4"),
-    ("dependencies = {'lua', 'a/b'}", "1 BadDependency 1"),
+    ("dependencies = {''}", "BadDependency 0 BadDependency 0"),
+    ("dependencies = {'lua !'}", "BadDependency 0 BadOperator 4"),
+    (
+        "dependencies = {'lua', 'a/b'}",
+        "BadDependency 1 BadDependency 1",
+    ),
     (
         "dependencies = {'lua >= 1234567890123456789'}",
-        "0 BadDependency 7",
+        "BadDependency 0 BadDependency 7",
     ),
-    ("dependencies = {'lua >= 5.1', 'x =>'}", "1 BadOperator 2"),
-    ("dependencies = {'manifest'}", "0 BadDependency 0"),
-    ("dependencies = {'lua\\255'}", "0 BadDependency 3"),
-    ("dependencies = {'lua', '=', '!'}", "1 BadDependency 0"),
-    ("build_dependencies = {'-'}", "0 BadDependency 0"),
-    ("build_dependencies = {'a', 'b >'}", "1 BadDependency 3"),
+    (
+        "dependencies = {'lua >= 5.1', 'x =>'}",
+        "BadDependency 1 BadOperator 2",
+    ),
+    (
+        "dependencies = {'manifest'}",
+        "BadDependency 0 BadDependency 0",
+    ),
+    (
+        "dependencies = {'lua\\255'}",
+        "BadDependency 0 BadDependency 3",
+    ),
+    (
+        "dependencies = {'lua', '=', '!'}",
+        "BadDependency 1 BadDependency 0",
+    ),
+    (
+        "build_dependencies = {'-'}",
+        "BadDependency 0 BadDependency 0",
+    ),
+    (
+        "build_dependencies = {'a', 'b >'}",
+        "BadDependency 1 BadDependency 3",
+    ),
     (
         "dependencies = {'a', 'b'} build_dependencies = {'c', 'd ~'}",
-        "3 BadOperator 2",
+        "BadDependency 3 BadOperator 2",
     ),
-    ("test_dependencies = {'a', 'b', 'c@'}", "2 BadDependency 1"),
+    (
+        "test_dependencies = {'a', 'b', 'c@'}",
+        "BadDependency 2 BadDependency 1",
+    ),
     (
         "build_dependencies = {'a'} test_dependencies = {'@'}",
-        "1 BadDependency 0",
+        "BadDependency 1 BadDependency 0",
     ),
     (
         "dependencies = {'a'} build_dependencies = {'b'} test_dependencies = {'c', 'd <>'}",
-        "3 BadOperator 2",
+        "BadDependency 3 BadOperator 2",
     ),
     (
         "dependencies = {'a'} build_dependencies = {'?'} test_dependencies = {'='}",
-        "1 BadDependency 0",
+        "BadDependency 1 BadDependency 0",
     ),
     (
         "dependencies = {'a '..'='} build_dependencies = {'?'} test_dependencies = {'='}",
-        "0 BadDependency 3",
+        "BadDependency 0 BadDependency 3",
     ),
     (
         "dependencies = {'a', platforms = {linux = {'!'}}}",
-        "0 BadDependency 0",
+        "BadDependency 0 BadDependency 0",
     ),
 ];
 

@@ -11,6 +11,7 @@ fn laws_are_called(rt: HostRuntime) -> Result<(), Fail> {
     rockspec_table::laws::platforms_go(&globals);
     let key = Key::Text(Bytes::from(Vec::from_slice(rt.alloc(), b"a")?));
     build_targets::laws::targets_are_paths(Listing::Bin, &key, b"x");
+    build_targets::laws::dot_slash_goes(Listing::Bin, &key, b"x");
     rockspec::laws::one_spec();
     rockspec::laws::names_and_versions();
     build_plan::laws::one_plan();

@@ -22,13 +22,13 @@ const PLANS: Frame = Frame {
 };
 
 const TEXTS: &[Case] = &[
-    ("a = = ?", "Lex BadByte 6"),
-    ("a = b.c a = ?", "Lex BadByte 12"),
-    ("a = b.c a = =", "Syntax Expected 12"),
-    ("rockspec_format = 1 a = b.c", "Eval IndexOf 25 nil"),
+    ("a = = ?", "BadByte 6"),
+    ("a = b.c a = ?", "BadByte 12"),
+    ("a = b.c a = =", "Expected 12"),
+    ("rockspec_format = 1 a = b.c", "IndexOf 25 nil"),
     (
         "a = b.c rockspec_format = {} build = {platforms = 1}",
-        "Eval IndexOf 5 nil",
+        "IndexOf 5 nil",
     ),
 ];
 
@@ -75,11 +75,11 @@ const FIELDS: &[Case] = &[
     ("version = '1' supported_platforms = {'x'}", "BadVersion"),
     (
         "dependencies = {'!'} supported_platforms = {'x'}",
-        "0 BadDependency 0",
+        "BadDependency 0 BadDependency 0",
     ),
     (
         "dependencies = {'!'} build = {type = 'x'}",
-        "0 BadDependency 0",
+        "BadDependency 0 BadDependency 0",
     ),
     (
         "supported_platforms = {'x'} build = {type = 'x'}",

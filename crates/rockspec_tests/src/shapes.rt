@@ -223,6 +223,10 @@ const UNKNOWN: &[Case] = &[
     ("description = {x = 'y'}", "Unknown description.x"),
     ("description = {'y'}", "Unknown description.1"),
     ("description = {[true] = 'y'}", "Unknown description.true"),
+    (
+        "description = {['a\"\\0'] = 'y'}",
+        "Unknown description.a\\\"\\000",
+    ),
     ("description = {['a.b'] = 'y'}", "Unknown description.a.b"),
     (
         "description = {platforms = {}}",
