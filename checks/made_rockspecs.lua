@@ -195,6 +195,8 @@ local changes = {
    function(spec) spec.supported_platforms = copied(one_of(platform_lists)) end,
    function(spec) put(spec, one_of({ "description.labels", "build_dependencies", "test", "test_dependencies" }), {}) end,
    function(spec) put(spec, one_of({ "description.labels", "deploy", "hooks" }), copied(one_of({ {}, { "x" }, { x = "y" } }))) end,
+   function(spec) a_table(spec, "build.install." .. one_of({ "lua", "lib", "bin", "conf" })).x = one_of({ 1, true, {} }) end,
+   function(spec) a_table(spec, "build").modules = copied(one_of({ { "a.lua" }, "a.lua", { [true] = "a.lua" }, {} })) end,
    function(spec) put(spec, "description.license", nil) end,
    function(spec) put(spec, "deploy.wrap_bin_scripts", one_of({ true, false, "x" })) end,
    function(spec) put(spec, "hooks.post_install", one_of({ "x", 1 })) end,

@@ -315,6 +315,7 @@ local function rule_of(rules, case)
 end
 
 local tally = { same = 0, refused = 0, otherwise = 0, differs = 0 }
+local met = {}
 
 local function differs(case, path, what)
    tally.differs = tally.differs + 1
@@ -334,6 +335,7 @@ local function judge(case, path, our, their, told)
       if not our then tally.refused = tally.refused + 1 end
    elseif our and lax or their and strict then
       tally.otherwise = tally.otherwise + 1
+      met[our and lax or strict] = true
    else
       differs(case, path, told)
    end
@@ -353,4 +355,9 @@ for number = 1, count do
 end
 print(("rockspecs: %d as LuaRocks has it (%d refused by both), %d otherwise as the manual lists, %d differ"):format(
    tally.same, tally.refused, tally.otherwise, tally.differs))
+for _, rules in ipairs({ stricter, laxer }) do
+   for name in pairs(rules) do
+      if not met[name] then print("no case differed by this rule alone or first: " .. name) end
+   end
+end
 os.exit(tally.differs == 0)
