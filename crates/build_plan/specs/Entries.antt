@@ -7,7 +7,8 @@ use Rattle.build_targets.specs.declared.meanings.Listing.{Listing}
 use Rattle.build_targets.specs.declared.meanings.Listing.TheVariants.{Modules, Lua, Lib, Bin, Conf}
 use Rattle.build_targets.specs.declared.target.Target.{Target}
 use Rattle.build_targets.specs.Meanings.{meaning_at}
-use Rattle.lua_value.specs.Pairs.{Datum, Pairs, nil, truth_value, int_value, text_value, table_value, no_pairs, value_at, listed}
+use Rattle.lua_value.specs.Pairs.{Datum, Pairs, nil, truth_value, int_value, text_value, table_value, value_at, listed}
+pub use Rattle.rockspec_table.specs.Platforms.{table_at}
 
 -- the bytes of a text; another value has none
 abbrev pub bytes_of : Datum → List ℕ
@@ -16,19 +17,6 @@ bytes_of (truth_value b) = []
 bytes_of (int_value n) = []
 bytes_of (text_value bytes) = bytes
 bytes_of (table_value ps) = []
-
--- the table that a value is; another value, and one that isn't there, is one without entries
-abbrev pub table_of : Option Datum → Pairs
-table_of None = no_pairs
-table_of (Some nil) = no_pairs
-table_of (Some (truth_value b)) = no_pairs
-table_of (Some (int_value n)) = no_pairs
-table_of (Some (text_value bytes)) = no_pairs
-table_of (Some (table_value ps)) = ps
-
--- the table at a text key
-abbrev pub table_at : (name : List ℕ) → Pairs → Pairs
-table_at name ps = table_of (value_at (Text name) ps)
 
 -- the table `build` of the fields, and the table `install` in it
 abbrev pub build_of : (fields : Pairs) → Pairs

@@ -12,9 +12,10 @@ ghost use Rattle.build_plan.specs.Steps.{type_in, is_served, modules_in, LacksMo
 ghost use Rattle.build_plan.specs.Steps.{compiled_name, Passes};
 
 use crate::PlanFault;
-use crate::fields::{bytes_of, copied, entry_at, has_entries, key_bytes, table_at, value_at};
+use crate::fields::{bytes_of, copied, has_entries, key_bytes, table_at};
 use crate::stop::Stop;
 use lua_value::{Key, Table};
+use rockspec_table::{entry_at, value_at};
 use std::alloc::{AllocError, Global};
 
 /// Looks for the first fault of a build, up to a module that needs a compiler. Given are the fields, the table

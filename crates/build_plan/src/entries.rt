@@ -9,11 +9,12 @@ ghost use Rattle.build_plan.specs.Steps.{targets_of, blamed_in, entries_in, text
 ghost use Rattle.build_plan.specs.Steps.{Finds, IsMeantAt, IsNamedAt};
 
 use crate::PlanFault;
-use crate::fields::{bytes_of, copied, entry_at, table_at};
+use crate::fields::{bytes_of, copied, table_at};
 use crate::stop::Stop;
 use build_targets::{Listing, Target, folder, meaning};
 use lua_value::Table;
 use rocks_text::FilePath;
+use rockspec_table::entry_at;
 use std::alloc::Global;
 
 /// The targets of all entries of the modules and of the table `install`, in their order.

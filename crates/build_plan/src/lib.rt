@@ -13,5 +13,6 @@ mod stop;
 
 pub use build_targets::{Dest, Target};
 pub use fault::PlanFault;
+pub use fields::bytes_of;
 pub use plan::{BuildPlan, build_plan};
 pub use recipe::Recipe;

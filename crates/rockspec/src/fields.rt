@@ -6,19 +6,10 @@ ghost use Rattle.lua_value.specs.Pairs.{listed};
 ghost use Rattle.lua_value.specs.View.{datum};
 ghost use Rattle.rockspec.specs.Fields.{text_at, texts_at};
 
-use lua_value::{Table, Value};
+use build_plan::bytes_of;
+use lua_value::Table;
 use rockspec_table::{entry_at, table_at, value_at};
 use std::alloc::{AllocError, Global};
-
-// The bytes of a text; another value has none.
-fn bytes_of(value: &Value) -> &[u8]
-    ensures { result.now ≡ bytes_of (datum value.now) }
-{
-    match value {
-        Value::Text(bytes) => bytes.as_slice(),
-        _ => &[],
-    }
-}
 
 /// The text at a name; the empty one where there is none. The only error is want of memory.
 pub fn text_at<'a>(alloc: Global, fields: &'a Table, name: &str) -> Result<&'a [u8], AllocError>
