@@ -3,9 +3,11 @@
 
 mod digests;
 pub mod laws;
+mod limits;
 mod order;
 mod rock;
 
 pub use digests::digest;
-pub use rock::{Rock, rock_manifest_text};
+pub use limits::{LONGEST_FILE, MOST_BYTES, MOST_FILES};
+pub use rock::{Rock, copied_dependencies, rock_manifest_text, rockspec_path};
 pub use rock_manifest::{Record, RecordFault, read_rock_manifest};

@@ -59,7 +59,8 @@ impl Rock {
     }
 }
 
-fn copied_dependencies(
+/// Equal dependencies. The only error is want of memory.
+pub fn copied_dependencies(
     alloc: Global,
     dependencies: &[Dependency],
 ) -> Result<Items<Dependency>, AllocError>
@@ -116,7 +117,9 @@ fn record_of(alloc: Global, rock: &Rock) -> Result<Record, AllocError>
     })
 }
 
-fn rockspec_path(alloc: Global, key: &RockKey) -> Result<FilePath, AllocError>
+/// The path of a rock's rockspec in its folder, and on a server: `NAME-VERSION.rockspec`. The only error is want of
+/// memory.
+pub fn rockspec_path(alloc: Global, key: &RockKey) -> Result<FilePath, AllocError>
     ensures { IfOk result (λ path. path ≡ rockspec_name key.now.name key.now.version) }
 {
     // They are looked at for what their types promise: so the text is a path.
