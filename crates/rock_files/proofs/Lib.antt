@@ -1,0 +1,4 @@
+mod Asking
+mod Failing
+mod Sorting
+mod Steps
