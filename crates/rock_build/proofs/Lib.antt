@@ -1,0 +1,7 @@
+mod Answering
+mod FilesFound
+pub mod OneRock
+mod PathTexts
+mod Planned
+mod Sorted
+mod WellMade
