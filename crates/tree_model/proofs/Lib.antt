@@ -1,2 +1,4 @@
+pub mod OwnPaths
 pub mod PathTies
+pub mod Rows
 mod TreeFiles

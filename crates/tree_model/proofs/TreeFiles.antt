@@ -1,28 +1,18 @@
 -- What stands at a path in a tree, by the files that its rocks bring.
-use Rattle.std.proofs.Common.{◌≡◌, ◌≢◌, ℕ, zero, suc, true, false, List, [], ◌∷◌, Some, cond, refl, sym, ap, subst, ◌∙◌, arith}
+use Rattle.std.proofs.Common.{◌≡◌, ◌≢◌, ℕ, zero, suc, true, false, List, [], ◌∷◌, Some, cond, refl, sym, ap, ◌∙◌, arith}
 use Rattle.std.proofs.lemmas.Cmp.{nat_list_cmp_total}
 use Rattle.std.specs.FinMap.{get, get-from_entries}
 use Rattle.std.specs.FinMap.Entries.{find}
-use Rattle.std.specs.List.{flat_map, AllByRecursion, Contains}
+use Rattle.std.specs.List.{flat_map, Contains}
 use Rattle.std.specs.Ordering.{eq_by_cmp}
 use Rattle.rocks_text.specs.Files.{path_cmp}
-use Rattle.tree_model.specs.Rock.{Rock}
+use Rattle.rock_record.specs.declared.rock.Rock.{Rock}
 use Rattle.tree_model.proofs.PathTies.{tied, ties, untied}
+use Rattle.tree_model.proofs.Rows.{File, all_at, behind}
 use Rattle.tree_model.specs.Tree.{tree_of, files_of, HaveOwnPaths}
-
-abbrev File : Type 0
-File = List ℕ × List ℕ
 
 pair_is : (file : File) (path bytes : List ℕ) → file.0 ≡ path → file.1 ≡ bytes → file ≡ (path, bytes)
 pair_is (p, b) path bytes first second = rw (first, second) refl
-
-behind : (file : File) (files : List File) (x : File) → Contains files x → Contains (file ∷ files) x
-behind file files x (k, within, is) = (suc k, omega arith, is)
-
-all_at : (P : File → Type 0) (files : List File) (x : File) → AllByRecursion P files → Contains files x → P x
-all_at P [] x all (k, within, is) = absurd (omega arith)
-all_at P (file ∷ files) x all (zero, within, is) = subst P is all.0
-all_at P (file ∷ files) x all (suc k, within, is) = all_at P files x all.1 (k, omega arith, is)
 
 found_among : (files : List File) (path bytes : List ℕ) → find path_cmp path files ≡ Some bytes → Contains files (path, bytes)
 found_among [] path bytes is = absurd cc

@@ -1,4 +1,4 @@
 pub use Rattle.rocks_text.specs.Files
 pub use Rattle.tree_paths.specs.Places
-pub mod Rock
+pub use Rattle.rock_record.specs.Made
 pub mod Tree

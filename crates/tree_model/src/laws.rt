@@ -2,7 +2,8 @@
 ghost use Rattle.std.specs.Prelude.{◌≡◌, ℕ, List, [], Some};
 ghost use Rattle.std.specs.List.{flat_map, Contains};
 ghost use Rattle.std.specs.FinMap.{empty, get};
-ghost use Rattle.tree_model.specs.Rock.{Rock};
+ghost use Rattle.rock_record.specs.Made.{HasGoodPaths};
+ghost use Rattle.rock_record.specs.declared.rock.Rock.{Rock};
 ghost use Rattle.tree_model.specs.Tree.{tree_of, files_of, HaveOwnPaths};
 
 /// The tree of the empty set has no file.
@@ -19,4 +20,9 @@ pub fn files_of_a_tree()
         → HaveOwnPaths (flat_map files_of rocks)
         → Contains (flat_map files_of rocks) (path, bytes)
         → get (tree_of rocks) path ≡ Some bytes }
+{}
+
+/// The files that a rock brings have paths of their own, where its items and own files can stand beside each other.
+pub fn a_rock_has_own_paths()
+    ensures { (rock : Rock) → HasGoodPaths rock → HaveOwnPaths (files_of rock) }
 {}

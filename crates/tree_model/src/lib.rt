@@ -1,8 +1,8 @@
-//! What files a tree has: a definition, in `specs/`, by the set of the rocks that are installed in it, and the calls
-//! that answer where a rock's own files stand.
+//! What files a tree has: a definition, in `specs/`, by the set of the rocks that are installed in it, and the call
+//! that answers the files of one rock.
 #![tactic(auto)]
 
 pub mod laws;
-mod places;
+mod staging;
 
-pub use places::rockspec_place;
+pub use staging::{Staged, files};
