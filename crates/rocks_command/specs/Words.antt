@@ -6,7 +6,7 @@ use Rattle.rocks_text.specs.Texts.{is_file_path, is_name, lowered}
 use Rattle.rocks_version.specs.Texts.{is_rock_version, is_version}
 use Rattle.rocks_version.specs.declared.key.RockKey.{RockKey}
 use Rattle.rocks_command.specs.declared.command.Command.{Command}
-use Rattle.rocks_command.specs.declared.command.Command.TheVariants.{Add, Compare, Eval, Lint}
+use Rattle.rocks_command.specs.declared.command.Command.TheVariants.{Add, Compare, Eval, Install, Lint}
 use Rattle.rocks_command.specs.declared.fault.WordsFault.{WordsFault}
 use Rattle.rocks_command.specs.declared.fault.WordsFault.TheVariants.{Options, BadWords, NoMemory}
 
@@ -97,16 +97,17 @@ abbrev pub compare_left : List (List ℕ) → Result Command WordsFault
 compare_left [] = Err (BadWords 1)
 compare_left (left ∷ words) = if not (is_version left) then Err (BadWords 1) else compare_right left words
 
--- `add NAME VERSION`, `lint NAME VERSION`, `eval PATH` or `compare VERSION VERSION`. A fault has the number of the
+-- `add NAME VERSION`, `install NAME VERSION`, `lint NAME VERSION`, `eval PATH` or `compare VERSION VERSION`. A fault has the number of the
 -- first word that fits no command, which is the count of the words where they end too early.
 abbrev pub command_in : List (List ℕ) → Result Command WordsFault
 command_in [] = Err (BadWords 0)
 command_in (word ∷ words) =
     if bytes_eq word (codes "add") then keyed Add (rock_key words)
+    else (if bytes_eq word (codes "install") then keyed Install (rock_key words)
     else (if bytes_eq word (codes "lint") then keyed Lint (rock_key words)
     else (if bytes_eq word (codes "eval") then eval_path words
     else (if bytes_eq word (codes "compare") then compare_left words
-    else Err (BadWords 0))))
+    else Err (BadWords 0)))))
 
 abbrev pub command_after : Result Rooted WordsFault → Result Command WordsFault
 command_after (Ok rooted) = command_in rooted.command

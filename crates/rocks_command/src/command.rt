@@ -11,6 +11,9 @@ use std::alloc::{AllocError, Global};
 pub enum Command {
     /// Take the rock of an unpacked rock's folder into the tree. Its version is one that a rock may have.
     Add(RockKey),
+    /// Build a rock from the sources beside its rockspec on the earliest server that has it, into the tree. Its version
+    /// is one that a rock may have.
+    Install(RockKey),
     /// Tell the format of a rock's rockspec on the earliest server that has it. Its version is one that a rock may
     /// have.
     Lint(RockKey),
@@ -41,6 +44,7 @@ impl Command {
     {
         match self {
             Command::Add(key) => Ok(Command::Add(key.copy(alloc)?)),
+            Command::Install(key) => Ok(Command::Install(key.copy(alloc)?)),
             Command::Lint(key) => Ok(Command::Lint(key.copy(alloc)?)),
             Command::Eval(path) => Ok(Command::Eval(path.copy(alloc)?)),
             Command::Compare(left, right) => {

@@ -18,8 +18,9 @@ use std::alloc::{AllocError, Global};
 const MOST_SERVERS: usize = 8;
 
 /// The command that the words of a command line give: `--tree DIR`, then `--from DIR` at most 8 times, then
-/// `add NAME VERSION`, `lint NAME VERSION`, `eval PATH` or `compare VERSION VERSION`. NAME is put into lower case,
-/// PATH is a path on a server, and VERSION any version, but one that a rock may have behind `add` and `lint`.
+/// `add NAME VERSION`, `install NAME VERSION`, `lint NAME VERSION`, `eval PATH` or `compare VERSION VERSION`. NAME is put
+/// into lower case, PATH is a path on a server, and VERSION any version behind `compare`, and else one that a rock may
+/// have.
 ///
 /// `Options` and `BadWords` exactly where the words are faulty so, and `NoMemory` where memory runs out.
 pub fn read_words(alloc: Global, words: &[String]) -> Result<Command, WordsFault>
@@ -129,6 +130,9 @@ fn command_in(alloc: Global, words: &[String]) -> Result<Command, WordsFault>
 {
     match words {
         [verb, rest @ ..] if verb.as_str() == "add" => Ok(Command::Add(rock_key(alloc, rest)?)),
+        [verb, rest @ ..] if verb.as_str() == "install" => {
+            Ok(Command::Install(rock_key(alloc, rest)?))
+        }
         [verb, rest @ ..] if verb.as_str() == "lint" => Ok(Command::Lint(rock_key(alloc, rest)?)),
         [verb, rest @ ..] if verb.as_str() == "eval" => eval_path(alloc, rest),
         [verb, rest @ ..] if verb.as_str() == "compare" => compare_left(alloc, rest),
