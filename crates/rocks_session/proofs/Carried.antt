@@ -1,19 +1,19 @@
 -- From what the parts of a run leave to what the run leaves.
-use Rattle.std.proofs.Common.{◌≡◌, ◌≤◌, ◌+◌, ◌⊎◌, inl, inr, ℕ, List, ◌++◌, Option, None, Some, IfSome, Result, Ok, Err, refl, sym, ap, ◌∙◌, subst, take, length, arith, is_some, true, false}
+use Rattle.std.proofs.Common.{◌≡◌, ◌≤◌, ◌+◌, inl, inr, ℕ, List, ◌++◌, Option, None, Some, IfSome, Result, Ok, Err, refl, sym, ap, ◌∙◌, subst, take, length, arith, is_some, true, false}
 use Rattle.std.proofs.lemmas.List.{append-nil, take_all}
 use Rattle.rocks_text.specs.Files.{Files}
 use Rattle.rocks_outside.specs.Device.{DeviceState, SaysOnly, Says, Ticks, RisesByOneWhereTold, TellsTheSame}
 use Rattle.rocks_outside.specs.Told.{WhereTold}
 use Rattle.rocks_outside.specs.declared.fault.DeviceError.{DeviceError}
 use Rattle.rocks_outside.specs.declared.fault.DeviceError.TheVariants as device_error
-use Rattle.tree_model.specs.Rock.{Rock}
+use Rattle.rock_record.specs.declared.rock.Rock.{Rock}
 use Rattle.tree_model.specs.Tree.{tree_of}
 use Rattle.rocks_session.specs.Execute.{CarriesOut, IsReadOnly, IsLeft}
 use Rattle.rocks_session.specs.Opened.{Opens, IsTreeOf, IsOpenAs}
 use Rattle.rocks_session.specs.Step.{Outcome, IsStep, ticks}
 use Rattle.rocks_session.specs.Run.{Runs, IsUntouched, OnlySays, SaysAtMost, status_of}
-use Rattle.rocks_session.specs.declared.reply.Reply.{Reply}
-use Rattle.rocks_session.specs.declared.reply.Refusal.{Refusal}
+use Rattle.rocks_reply.specs.declared.reply.Reply.{Reply}
+use Rattle.rocks_reply.specs.declared.reply.Refusal.{Refusal}
 use Rattle.rocks_session.specs.declared.status.Status.{Status}
 use Rattle.rocks_session.specs.declared.status.Status.TheVariants.{Done, Refused}
 use Rattle.rocks_version.specs.declared.key.RockKey.{RockKey}

@@ -4,15 +4,15 @@ use Rattle.std.specs.Prelude.{Ok}
 use Rattle.rocks_text.specs.Files.{Files}
 use Rattle.rocks_outside.specs.Device.{DeviceState}
 use Rattle.rocks_outside.specs.Shelf.{ShelfState}
-use Rattle.tree_model.specs.Rock.{Rock}
+use Rattle.rock_record.specs.declared.rock.Rock.{Rock}
 use Rattle.rocks_command.specs.declared.command.Command.TheVariants.{Compare}
 use Rattle.rocks_version.specs.declared.key.RockKey.{RockKey}
 use Rattle.rocks_session.specs.Execute.{CarriesOut, Executes, IsModels, outcome_of}
 use Rattle.rocks_session.specs.Opened.{IsOpenAs}
 use Rattle.rocks_session.specs.Step.{Outcome, compared, compared_text}
-use Rattle.rocks_session.specs.declared.reply.Reply.{Reply}
+use Rattle.rocks_reply.specs.declared.reply.Reply.{Reply}
 use Rattle.rocks_session.proofs.Adding.{answered}
-use Rattle.rocks_session.proofs.Asking.{stays_same}
+use Rattle.served_rocks.proofs.Keeping.{kept_same}
 use Rattle.rocks_session.proofs.Writing.{no_tick}
 
 module _ (left right : List ℕ) where
@@ -34,4 +34,4 @@ module _ (left right : List ℕ) where
     }
 
     pub compares : (reply : Reply) → reply.refusal ≡ None → reply.text ≡ compared_text left right → Executes (Compare left right) (Ok reply) keys keys device device shelf shelf
-    compares reply is says = answered (Compare left right) keys device shelf shelf reply (stays_same shelf) (carries reply is says)
+    compares reply is says = answered (Compare left right) keys device shelf shelf reply (kept_same shelf) (carries reply is says)

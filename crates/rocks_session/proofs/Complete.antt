@@ -4,7 +4,7 @@ use Rattle.std.proofs.lemmas.List.{length-map}
 use Rattle.std.specs.FinMap.{len, entries, len-empty, len-entries}
 use Rattle.rocks_text.specs.Files.{Files, path_cmp}
 use Rattle.rocks_outside.specs.Counts.{HasRisen}
-use Rattle.tree_model.specs.Rock.{Rock}
+use Rattle.rock_record.specs.declared.rock.Rock.{Rock}
 use Rattle.tree_model.specs.Tree.{tree_of}
 use Rattle.rocks_session.specs.Faults.{IsLeastPath}
 use Rattle.rocks_session.specs.Opened.{Opens}

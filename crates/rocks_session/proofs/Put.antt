@@ -7,12 +7,9 @@ use Rattle.std.specs.Cmp.Lexicographic.{nat_list_cmp_total}
 use Rattle.std.specs.FinMap.{get, insert, empty, from_entries, find, get-insert, get-empty, get-from_entries, same_map, slice_cmp-IsAntisymmetric, nat_cmp-IsAntisymmetric}
 use Rattle.rocks_text.specs.Files.{Files, path_cmp}
 use Rattle.tree_model.proofs.PathTies.{by_bool, tied, untied}
-use Rattle.tree_model.specs.Rock.{Rock}
+use Rattle.rock_record.specs.declared.rock.Rock.{Rock}
 use Rattle.tree_model.specs.Tree.{files_of, tree_of, HaveOwnPaths}
-use Rattle.rocks_session.specs.Staged.{put_all}
-
-abbrev File : Type 0
-File = List ℕ × List ℕ
+use Rattle.rocks_session.specs.Installing.{put_all, File}
 
 -- the first if there is one
 abbrev or_else : Option (List ℕ) → Option (List ℕ) → Option (List ℕ)

@@ -1,5 +1,5 @@
 -- What calls of a device that change it leave, one after another.
-use Rattle.std.proofs.Common.{◌≡◌, ◌≤◌, ◌+◌, ◌-◌, ℕ, List, Option, None, Some, IfSome, length, map, [], ◌∷◌, ◌++◌, refl, sym, ap, subst, ◌∙◌, arith, inl, inr}
+use Rattle.std.proofs.Common.{◌≡◌, ◌≤◌, ◌+◌, ◌-◌, ℕ, List, Option, None, Some, IfSome, length, [], ◌∷◌, ◌++◌, refl, sym, ap, subst, ◌∙◌, arith, inl, inr}
 use Rattle.std.specs.Prelude.{Result, Ok, Err, IsErrOf}
 use Rattle.rocks_text.specs.Files.{Files}
 use Rattle.rocks_outside.specs.Counts.{HasRisen, RisesByOne}
@@ -7,14 +7,13 @@ use Rattle.rocks_outside.specs.Device.{DeviceState, CountsFaults, RisesByOneWher
 use Rattle.rocks_outside.specs.Told.{WhereTold}
 use Rattle.rocks_outside.specs.declared.fault.DeviceError.{DeviceError}
 use Rattle.rocks_outside.specs.declared.fault.DeviceError.TheVariants as device_error
-use Rattle.tree_model.specs.Rock.{Rock}
+use Rattle.rock_record.specs.declared.rock.Rock.{Rock}
 use Rattle.tree_model.specs.Tree.{file_count}
 use Rattle.rocks_session.specs.Faults.{IsDeviceFault, fault_of_device}
-use Rattle.rocks_session.specs.Staged.{file_of, put_all, Writes, Installs}
+use Rattle.rocks_session.specs.Installing.{put_all, File, Writes, Installs}
 use Rattle.rocks_session.specs.Step.{Outcome, ticks, ticks_for}
 use Rattle.rocks_session.specs.declared.fault.SessionFault.{SessionFault}
 use Rattle.rocks_session.specs.declared.fault.SessionFault.TheVariants as session_fault
-use Rattle.rocks_session.specs.declared.take.Staged.{Staged}
 use Rattle.rocks_version.specs.declared.key.RockKey.{RockKey}
 
 rises_one : (before now : ℕ) → RisesByOne before now → before ≤ now
@@ -64,15 +63,15 @@ caused : (e : DeviceError) (fault : SessionFault) (before now : ℕ) → fault �
 caused device_error.Failed fault before now is cause = subst (IsDeviceFault before now) (sym is) (cause refl)
 caused device_error.NoMemory fault before now is cause = subst (IsDeviceFault before now) (sym is) tt
 
-module _ (key : RockKey) (staged : List Staged) (keys_before keys_now : List RockKey) where
-  pub installs_nothing : (device : DeviceState) → Installs (Err session_fault.NoMemory) key staged keys_before keys_now device device
+module _ (key : RockKey) (new : List File) (keys_before keys_now : List RockKey) where
+  pub installs_nothing : (device : DeviceState) → Installs (Err session_fault.NoMemory) key new keys_before keys_now device device
   installs_nothing device = record { tree = tt; files = tt; ticked = tt; clock = omega arith; said = refl; faults = omega arith; cause = tt }
 
-  pub installs_in_part : (e : DeviceError) (fault : SessionFault) (before now : DeviceState) → fault ≡ fault_of_device e → Writes (Err e) staged before now → Installs (Err fault) key staged keys_before keys_now before now
+  pub installs_in_part : (e : DeviceError) (fault : SessionFault) (before now : DeviceState) → fault ≡ fault_of_device e → Writes (Err e) new before now → Installs (Err fault) key new keys_before keys_now before now
   installs_in_part e fault before now is writes =
       record { tree = tt; files = tt; ticked = tt; clock = writes.clock; said = writes.said; faults = writes.faults; cause = caused e fault _ _ is writes.cause }
 
-  pub installs_unsynced : (e : DeviceError) (fault : SessionFault) (done : Unit {0}) (before mid now : DeviceState) → fault ≡ fault_of_device e → Writes (Ok done) staged before mid → SyncsOnly {T = Unit {0}} (Err e) mid now → Installs (Err fault) key staged keys_before keys_now before now
+  pub installs_unsynced : (e : DeviceError) (fault : SessionFault) (done : Unit {0}) (before mid now : DeviceState) → fault ≡ fault_of_device e → Writes (Ok done) new before mid → SyncsOnly {T = Unit {0}} (Err e) mid now → Installs (Err fault) key new keys_before keys_now before now
   installs_unsynced e fault done before mid now is writes syncs =
       let up = faults_rise {T = Unit {0}} (Err e) mid.faults now.faults syncs.faults in
       let rises = tick_rises {T = Unit {0}} (Err e) mid.files mid.clock now.clock syncs.clock in
@@ -86,19 +85,19 @@ module _ (key : RockKey) (staged : List Staged) (keys_before keys_now : List Roc
         cause = caused e fault _ _ is (λ failed. fault_risen {T = Unit {0}} (Err e) before.faults mid.faults now.faults writes.faults syncs.faults failed);
       }
 
-  pub installs_all : (done synced all : Unit {0}) (before mid now : DeviceState) → keys_now ≡ keys_before ++ key ∷ [] → Writes (Ok done) staged before mid → SyncsOnly (Ok synced) mid now → Installs (Ok all) key staged keys_before keys_now before now
+  pub installs_all : (done synced all : Unit {0}) (before mid now : DeviceState) → keys_now ≡ keys_before ++ key ∷ [] → Writes (Ok done) new before mid → SyncsOnly (Ok synced) mid now → Installs (Ok all) key new keys_before keys_now before now
   installs_all done synced all before mid now keys writes syncs =
       let rises = rises_told mid.files mid.clock now.clock syncs.clock in
       record {
         tree = keys;
-        files = subst (λ files. WhereTold (λ old new. new ≡ put_all (map file_of staged) old) before.files files) (sym syncs.files) writes.files;
-        ticked = regrouped before.files before.clock now.clock (one_more_tick _ before.files mid.files before.clock mid.clock now.clock (length staged) writes.files writes.ticked syncs.clock);
+        files = subst (λ files. WhereTold (λ old after. after ≡ put_all new old) before.files files) (sym syncs.files) writes.files;
+        ticked = regrouped before.files before.clock now.clock (one_more_tick _ before.files mid.files before.clock mid.clock now.clock (length new) writes.files writes.ticked syncs.clock);
         clock = omega (arith, writes.clock, rises);
         said = syncs.said ∙ writes.said;
         faults = omega (arith, writes.faults, syncs.faults);
         cause = tt;
       }
     where
-      regrouped : (first : Option Files) (clock_first clock_now : ℕ) → IfSome first (λ _. clock_now ≡ clock_first + (length staged + 1)) → IfSome first (λ _. clock_now ≡ clock_first + length staged + 1)
+      regrouped : (first : Option Files) (clock_first clock_now : ℕ) → IfSome first (λ _. clock_now ≡ clock_first + (length new + 1)) → IfSome first (λ _. clock_now ≡ clock_first + length new + 1)
       regrouped None a b ticked = tt
       regrouped (Some files) a b ticked = omega (arith, ticked)

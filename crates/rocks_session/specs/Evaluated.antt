@@ -3,10 +3,10 @@ use Rattle.std.specs.Prelude.{ℕ, ◌≡◌, List, Result}
 use Rattle.lua_text.specs.Outcomes.{HasOutcome}
 use Rattle.lua_text.specs.declared.fault.EvalFailed.{EvalFailed}
 use Rattle.lua_value.specs.Pairs.{Pairs}
-use Rattle.tree_model.specs.Rock.{Rock}
+use Rattle.rock_record.specs.declared.rock.Rock.{Rock}
 use Rattle.rocks_session.specs.Execute.{outcome_of}
 use Rattle.rocks_session.specs.Step.{told}
-use Rattle.rocks_session.specs.declared.reply.Reply.{Reply}
+use Rattle.rocks_reply.specs.declared.reply.Reply.{Reply}
 
 -- the reply tells the only outcome of the text
 pub record Tells (text : List ℕ) (reply : Reply) : Type 0 where

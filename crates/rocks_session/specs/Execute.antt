@@ -3,17 +3,17 @@ use Rattle.std.specs.Prelude.{◌≡◌, ◌+◌, ◌≤◌, List, Option, IfSom
 use Rattle.rocks_text.specs.Files.{Files}
 use Rattle.rocks_outside.specs.Device.{DeviceState}
 use Rattle.rocks_outside.specs.Shelf.{ShelfState}
-use Rattle.tree_model.specs.Rock.{Rock}
+use Rattle.rock_record.specs.declared.rock.Rock.{Rock}
 use Rattle.tree_model.specs.Tree.{tree_of}
 use Rattle.rocks_session.specs.Faults.{HasCause}
 use Rattle.rocks_session.specs.Opened.{IsTreeOf, IsOpenAs}
 use Rattle.rocks_session.specs.Step.{Outcome, IsStep, IsOutcomeOf, ticks}
 use Rattle.rocks_session.specs.declared.fault.SessionFault.{SessionFault}
 use Rattle.rocks_session.specs.declared.fault.SessionFault.TheVariants.{ShelfFault}
-use Rattle.rocks_session.specs.declared.reply.Reply.{Reply}
+use Rattle.rocks_reply.specs.declared.reply.Reply.{Reply}
 use Rattle.rocks_version.specs.declared.key.RockKey.{RockKey}
 use Rattle.rocks_command.specs.declared.command.Command.{Command}
-use Rattle.rocks_command.specs.declared.command.Command.TheVariants.{Add, Compare, Eval, Lint}
+use Rattle.rocks_command.specs.declared.command.Command.TheVariants.{Add, Compare, Eval, Install, Lint}
 
 -- An outcome of the command over a set: the model's only one where the shelf tells what the servers hold, and one that
 -- the command can have whatever they hold.
@@ -57,6 +57,7 @@ pub record Keeps (result : Result Reply SessionFault) (before now : DeviceState)
 -- a command that keeps tree and device, whatever it answers
 abbrev pub IsReadOnly : Command → Type 0
 IsReadOnly (Add key) = ⊥
+IsReadOnly (Install key) = ⊥
 IsReadOnly (Eval path) = Unit {0}
 IsReadOnly (Compare left right) = Unit {0}
 IsReadOnly (Lint key) = Unit {0}

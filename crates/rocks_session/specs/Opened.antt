@@ -1,10 +1,10 @@
 -- Which set a tree stands for. (This project's own.)
-use Rattle.std.specs.Prelude.{◌≡◌, List, [], map, Option, IfSome}
+use Rattle.std.specs.Prelude.{◌≡◌, List, [], Option, IfSome}
 use Rattle.rocks_text.specs.Files.{Files}
 use Rattle.rocks_outside.specs.Device.{DeviceState}
-use Rattle.tree_model.specs.Rock.{Rock}
+use Rattle.rock_record.specs.declared.rock.Rock.{Rock}
 use Rattle.tree_model.specs.Tree.{tree_of}
-use Rattle.rocks_session.specs.Step.{key_of}
+use Rattle.rocks_session.specs.Step.{keys_of}
 use Rattle.rocks_version.specs.declared.key.RockKey.{RockKey}
 
 -- The files, where they are told, are those of the set. Until the records of rocks are written, only the empty set
@@ -15,7 +15,7 @@ pub record Opens (found : Option Files) (set : List Rock) : Type 0 where
 
 -- a tree that was opened has the keys of the set
 abbrev pub IsTreeOf : List Rock → List RockKey → Type 0
-IsTreeOf set keys = keys ≡ map key_of set
+IsTreeOf set keys = keys ≡ keys_of set
 
 -- the tree in hand and the device stand for the set
 pub record IsOpenAs (set : List Rock) (keys : List RockKey) (device : DeviceState) : Type 0 where

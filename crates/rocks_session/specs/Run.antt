@@ -3,12 +3,12 @@ use Rattle.std.specs.Prelude.{ℕ, ◌≡◌, ◌≤◌, ◌+◌, ◌⊎◌, Lis
 use Rattle.rocks_text.specs.Files.{Files}
 use Rattle.rocks_outside.specs.Device.{DeviceState}
 use Rattle.rocks_outside.specs.Told.{WhereTold}
-use Rattle.tree_model.specs.Rock.{Rock}
+use Rattle.rock_record.specs.declared.rock.Rock.{Rock}
 use Rattle.tree_model.specs.Tree.{tree_of}
 use Rattle.rocks_session.specs.Execute.{IsModels}
 use Rattle.rocks_session.specs.Opened.{Opens}
 use Rattle.rocks_session.specs.Step.{Outcome, IsStep, ticks}
-use Rattle.rocks_session.specs.declared.reply.Refusal.{Refusal}
+use Rattle.rocks_reply.specs.declared.reply.Refusal.{Refusal}
 use Rattle.rocks_session.specs.declared.status.Status.{Status}
 use Rattle.rocks_session.specs.declared.status.Status.TheVariants.{Done, Refused, BadWords, NoMemory, DeviceFault, ShelfFault, Damaged}
 use Rattle.rocks_command.specs.declared.command.Command.{Command}

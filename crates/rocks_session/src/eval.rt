@@ -2,14 +2,12 @@
 ghost use Rattle.std.specs.Prelude.{◌≡◌, ◌++◌, List, None, IfOk, codes};
 ghost use Rattle.lua_print.specs.Printed.{HasNames, globals_text};
 ghost use Rattle.lua_value.specs.Ordered.{IsOrdered};
-ghost use Rattle.tree_model.specs.Rock.{Rock};
+ghost use Rattle.rock_record.specs.declared.rock.Rock.{Rock};
 ghost use Rattle.rocks_session.specs.Execute.{IsModels, outcome_of};
 ghost use Rattle.rocks_session.specs.Evaluated.{Tells};
-ghost use Rattle.rocks_session.specs.Staged.{Asks};
+ghost use Rattle.rocks_session.specs.Asking.{AsksShelf};
 ghost use Rattle.rocks_session.specs.Step.{too_long};
 
-use crate::reply::refused;
-use crate::search::{Found, find};
 use crate::{Command, EvalFailed, Refusal, Reply, SessionFault};
 use lua_lexer::LexFault;
 use lua_print::print;
@@ -17,7 +15,9 @@ use lua_text::globals;
 use lua_value::Table;
 use rocks_bytes::Bytes;
 use rocks_outside::Shelf;
+use rocks_reply::refused;
 use rocks_text::FilePath;
+use served_rocks::{Found, find};
 use std::alloc::{AllocError, Global};
 
 /// The longest Lua text, in bytes.
@@ -31,7 +31,7 @@ pub(crate) fn eval<F: Shelf>(
 ) -> Result<Reply, SessionFault>
     ensures answer { IfOk result (λ reply. (set : List Rock)
         → IsModels (Command.Eval path.now) set (F.state shelf.old).holds (outcome_of set reply)) }
-    ensures asks { Asks result (F.state shelf.old) (F.state shelf.new) }
+    ensures asks { AsksShelf result (F.state shelf.old) (F.state shelf.new) }
 {
     match find(alloc, shelf, path, LONGEST_TEXT)? {
         Found::Nowhere => Ok(refused(

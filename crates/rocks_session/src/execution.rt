@@ -1,5 +1,5 @@
 ghost use Rattle.std.specs.Prelude.{List};
-ghost use Rattle.tree_model.specs.Rock.{Rock};
+ghost use Rattle.rock_record.specs.declared.rock.Rock.{Rock};
 ghost use Rattle.rocks_session.specs.Execute.{Executes};
 ghost use Rattle.rocks_session.specs.Opened.{IsOpenAs};
 
@@ -9,6 +9,7 @@ use crate::eval::eval;
 use crate::lint::lint;
 use crate::{Command, Reply, SessionFault, Tree};
 use rocks_outside::{Device, Shelf};
+use served_rocks::Origin;
 use std::alloc::Global;
 
 /// Carries one command out on a tree that was opened, over the servers of a shelf. All files of a rock are read
@@ -29,7 +30,8 @@ pub fn execute<V: Device, F: Shelf>(
         (V.state device.old) (V.state device.new) (F.state shelf.old) (F.state shelf.new) }
 {
     match command {
-        Command::Add(key) => add(alloc, tree, device, shelf, key),
+        Command::Add(key) => add(alloc, tree, device, shelf, key, Origin::Unpacked),
+        Command::Install(key) => add(alloc, tree, device, shelf, key, Origin::Sources),
         Command::Lint(key) => lint(alloc, shelf, key),
         Command::Eval(path) => eval(alloc, shelf, path),
         Command::Compare(left, right) => Ok(compare(alloc, left, right)?),

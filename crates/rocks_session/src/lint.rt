@@ -1,20 +1,17 @@
 // The command `lint NAME VERSION`.
-ghost use Rattle.std.specs.Prelude.{◌≡◌, List, None, IfOk, Ok, Some};
-ghost use Rattle.tree_model.specs.Rock.{Rock};
+ghost use Rattle.std.specs.Prelude.{◌≡◌, List, None, IfOk};
+ghost use Rattle.rock_record.specs.declared.rock.Rock.{Rock};
 ghost use Rattle.rocks_session.specs.Execute.{IsModels, outcome_of};
-ghost use Rattle.rocks_session.specs.Linted.{TellsSpec};
-ghost use Rattle.rocks_session.specs.Staged.{Asks};
-ghost use Rattle.rocks_session.specs.Step.{format_text, is_of_rock, linted, linted_text, planned};
-ghost use Rattle.rocks_session.specs.Step.{spec_too_large};
+ghost use Rattle.rocks_session.specs.Asking.{AsksShelf};
+ghost use Rattle.rocks_session.specs.Step.{format_text, linted_text, planned};
 
-use crate::paths::served_rockspec;
-use crate::reply::refused;
-use crate::search::{Found, find};
 use crate::{BuildFailed, Command, Refusal, Reply, RockKey, SessionFault};
 use build_plan::BuildPlan;
 use rocks_bytes::Bytes;
 use rocks_outside::Shelf;
-use rockspec::{Format, LONGEST_ROCKSPEC, Rockspec, SpecFault};
+use rocks_reply::refused;
+use rockspec::Format;
+use served_rocks::{Origin, Served, Unserved, find_rockspec};
 use std::alloc::{AllocError, Global};
 
 /// Reads the rockspec of a rock on the earliest server that has it, and tells its format, or why it is no rockspec of
@@ -26,66 +23,21 @@ pub(crate) fn lint<F: Shelf>(
 ) -> Result<Reply, SessionFault>
     ensures answer { IfOk result (λ reply. (set : List Rock)
         → IsModels (Command.Lint key.now) set (F.state shelf.old).holds (outcome_of set reply)) }
-    ensures asks { Asks result (F.state shelf.old) (F.state shelf.new) }
+    ensures asks { AsksShelf result (F.state shelf.old) (F.state shelf.new) }
 {
-    let path = served_rockspec(alloc, key)?;
-    match find(alloc, shelf, &path, LONGEST_ROCKSPEC)? {
-        Found::Nowhere => Ok(refused(
-            alloc,
-            Refusal::NoRockspec {
-                key: key.copy(alloc)?,
-            },
-        )?),
-        Found::TooLong => Ok(refuse(alloc, key, too_large())?),
-        Found::At(_, bytes) => Ok(read_and_tell(alloc, key, bytes.as_slice())?),
+    match find_rockspec(alloc, shelf, key, Origin::Sources) {
+        Ok(served) => Ok(tell(alloc, key, served)?),
+        Err(Unserved::Refused(refusal)) => Ok(refused(alloc, refusal)?),
+        Err(Unserved::Failed(error)) => Err(SessionFault::from(error)),
     }
 }
 
-fn too_large() -> SpecFault
-    ensures { result ≡ spec_too_large }
-{
-    SpecFault::TooLarge {
-        length: u64::from(LONGEST_ROCKSPEC) + 1,
-    }
-}
-
-fn refuse(alloc: Global, key: &RockKey, fault: SpecFault) -> Result<Reply, AllocError>
+fn tell(alloc: Global, key: &RockKey, served: Served) -> Result<Reply, AllocError>
     ensures { IfOk result (λ reply. (set : List Rock)
-        → outcome_of set reply ≡ linted set key.now (Err fault)) }
+        → outcome_of set reply ≡ planned set key.now served.spec.format served.spec.plan) }
 {
-    refused(
-        alloc,
-        Refusal::Spec {
-            key: key.copy(alloc)?,
-            fault,
-        },
-    )
-}
-
-fn read_and_tell(alloc: Global, key: &RockKey, bytes: &[u8]) -> Result<Reply, AllocError>
-    ensures { IfOk result (TellsSpec key.now bytes.now) }
-{
-    match Rockspec::read(alloc, bytes) {
-        Ok(rockspec) => tell(alloc, key, rockspec),
-        Err(SpecFault::NoMemory) => Err(AllocError),
-        Err(fault) => refuse(alloc, key, fault),
-    }
-}
-
-// What a rockspec that was to be this rock's comes to.
-fn tell(alloc: Global, key: &RockKey, rockspec: Rockspec) -> Result<Reply, AllocError>
-    ensures { IfOk result (λ reply. (set : List Rock)
-        → outcome_of set reply ≡ linted set key.now (Ok rockspec)) }
-{
-    if !is_of_rock(key, &rockspec) {
-        return refused(
-            alloc,
-            Refusal::NotTheRock {
-                key: key.copy(alloc)?,
-            },
-        );
-    }
-    tell_plan(alloc, key, rockspec.format, rockspec.plan)
+    let spec = served.spec;
+    tell_plan(alloc, key, spec.format, spec.plan)
 }
 
 fn tell_plan(
@@ -107,13 +59,6 @@ fn tell_plan(
             },
         ),
     }
-}
-
-fn is_of_rock(key: &RockKey, rockspec: &Rockspec) -> bool
-    ensures { result ≡ is_of_rock key.now rockspec.now }
-{
-    key.name.as_str() == rockspec.key.name.as_str()
-        && key.version.as_str() == rockspec.key.version.as_str()
 }
 
 fn fine(alloc: Global, key: &RockKey, format: Format) -> Result<Reply, AllocError>

@@ -2,7 +2,7 @@ ghost use Rattle.std.specs.Prelude.{◌≡◌, ◌⊎◌, List, map, IfSome, IsE
 ghost use Rattle.rocks_outside.specs.Counts.{HasRisen};
 ghost use Rattle.rocks_outside.specs.Device.{SaysOnly};
 ghost use Rattle.rocks_version.specs.declared.key.RockKey.{RockKey};
-ghost use Rattle.tree_model.specs.Rock.{Rock};
+ghost use Rattle.rock_record.specs.declared.rock.Rock.{Rock};
 ghost use Rattle.rocks_session.specs.Execute.{Executes, IsReadOnly};
 ghost use Rattle.rocks_session.specs.Faults.{IsLeastPath};
 ghost use Rattle.rocks_session.specs.Opened.{IsOpenAs, Opens};

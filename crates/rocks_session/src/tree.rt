@@ -1,5 +1,5 @@
 ghost use Rattle.std.specs.Prelude.{◌≡◌, ◌≤◌, List, [], ◌∷◌, ◌++◌, IfOk, IfErr, OnOk, OnErr};
-ghost use Rattle.tree_model.specs.Rock.{Rock};
+ghost use Rattle.rock_record.specs.declared.rock.Rock.{Rock};
 ghost use Rattle.rocks_session.specs.Faults.{IsOpenFault};
 ghost use Rattle.rocks_session.specs.Opened.{Opens, IsTreeOf, IsOpenAs};
 ghost use Rattle.rocks_session.specs.Run.{IsUntouched};
@@ -25,6 +25,12 @@ impl Model for Tree {
 }
 
 impl Tree {
+    pub(crate) fn keys(&self) -> &[RockKey]
+        ensures { result.now ≡ self.now }
+    {
+        &self.rocks
+    }
+
     pub(crate) fn push(&mut self, key: RockKey) -> Result<(), AllocError>
         ensures ok { OnOk result (self.new ≡ self.old ++ key ∷ []) }
         ensures err { OnErr result (self.new ≡ self.old) }

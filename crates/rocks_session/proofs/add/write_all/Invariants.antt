@@ -1,6 +1,7 @@
 use Rattle.std.proofs.Common.{◌≡◌, ◌≤◌, ◌+◌, IfSome, drop, map}
 use Rattle.rocks_outside.specs.Told.{WhereTold}
-use Rattle.rocks_session.specs.Staged.{file_of, put_all}
+use Rattle.tree_model.specs.Tree.{file_at}
+use Rattle.rocks_session.specs.Installing.{put_all}
 use Rattle.rocks_session.proofs.add.write_all.Given as goal
 
 -- the files so far, with what is left put over them, are those with all put over the first
@@ -9,7 +10,7 @@ invariant-loop-file g l =
     let first = g.V.Device.state l.fn.device in
     let now = g.V.Device.state l.device in
     record {
-      files : WhereTold (λ before after. put_all (map file_of (drop l.file-index l.staged)) after ≡ put_all (map file_of l.staged) before) first.files now.files;
+      files : WhereTold (λ before after. put_all (map file_at (drop l.file-index l.files)) after ≡ put_all (map file_at l.files) before) first.files now.files;
       ticked : IfSome first.files (λ _. now.clock ≡ first.clock + l.file-index);
       clock : first.clock ≤ now.clock;
       said : now.said ≡ first.said;

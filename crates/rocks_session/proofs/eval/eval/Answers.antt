@@ -1,7 +1,8 @@
 use Rattle.std.proofs.Common.{Some, IfSome, ap, subst, ◌∙◌}
 use Rattle.rocks_session.specs.Execute.{outcome_of}
-use Rattle.rocks_session.specs.Search.{IsFoundIn}
-use Rattle.rocks_session.specs.Step.{refusal_text, too_long}
+use Rattle.served_rocks.specs.Search.{IsFoundIn}
+use Rattle.rocks_reply.specs.Texts.{refusal_text}
+use Rattle.rocks_session.specs.Step.{too_long}
 use Rattle.rocks_session.specs.declared.eval.TheConstants.{LONGEST_TEXT}
 use Rattle.rocks_session.proofs.Evaluating.{refuses, overlong}
 use Rattle.rocks_session.proofs.eval.eval.Goals as goal

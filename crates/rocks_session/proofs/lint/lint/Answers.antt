@@ -1,29 +1,19 @@
-use Rattle.std.proofs.Common.{ap, subst, ◌∙◌}
-use Rattle.std.specs.Prelude.{Err, IfSome}
-use Rattle.rockspec.specs.declared.read.TheConstants.{LONGEST_ROCKSPEC}
+use Rattle.std.proofs.Common.{subst}
+use Rattle.served_rocks.specs.Rockspecs.{IsUnserved}
+use Rattle.served_rocks.specs.declared.rockspecs.Origin.TheVariants.{Sources}
 use Rattle.rocks_session.specs.Execute.{outcome_of}
-use Rattle.rocks_session.specs.Linted.{TellsSpec}
-use Rattle.rocks_session.specs.Search.{IsFoundIn}
-use Rattle.rocks_session.specs.Step.{linted}
-use Rattle.rocks_session.specs.declared.search.Found.TheVariants.{TooLong, At}
-use Rattle.rocks_session.proofs.Linting.{overlong, read_so}
+use Rattle.rocks_session.proofs.Evaluating.{refuses}
+use Rattle.rocks_session.proofs.Linting.{refused_so, served_so}
 use Rattle.rocks_session.proofs.lint.lint.Goals as goal
 
-pub returns-in-TooLong-clause-answer : goal.returns-in-TooLong-clause-answer
-returns-in-TooLong-clause-answer g c = λ set.
-    let key = c.args.key.now in
-    let H = (g.F.Shelf.state c.args.shelf.now).holds in
-    let reply = c.in_ok-refuse-in-TooLong.field-0 in
-    let found = subst (λ f. IfSome H (λ servers. IsFoundIn LONGEST_ROCKSPEC servers c.in_ok-path.path f)) c.in-TooLong.is c.in_ok-find.ensures.found in
-    let there = subst (λ path. IfSome H (λ servers. IsFoundIn LONGEST_ROCKSPEC servers path TooLong)) c.in_ok-path.ensures found in
-    overlong key set H (outcome_of set reply) (c.in_ok-refuse-in-TooLong.ensures set ∙ ap (λ fault. linted set key (Err fault)) c.too_large.ensures) there
+pub returns-in_ok-tell-in-Ok-clause-answer : goal.returns-in_ok-tell-in-Ok-clause-answer
+returns-in_ok-tell-in-Ok-clause-answer g c = λ set.
+    served_so c.args.key.now set (g.F.Shelf.state c.args.shelf.now) c.in-Ok.served (outcome_of set c.in_ok-tell-in-Ok.field-0) c.in-Ok.ensures.served (c.in_ok-tell-in-Ok.ensures set)
 
-pub returns-clause-answer : goal.returns-clause-answer
-returns-clause-answer g c = λ set.
-    let key = c.args.key.now in
+pub returns-in_ok-refused-in-Err-Refused-clause-answer : goal.returns-in_ok-refused-in-Err-Refused-clause-answer
+returns-in_ok-refused-in-Err-Refused-clause-answer g c = λ set.
+    let reply = c.in_ok-refused-in-Err-Refused.field-0 in
     let H = (g.F.Shelf.state c.args.shelf.now).holds in
-    let reply = c.in_ok-read_and_tell-in-At.field-0 in
-    let found = subst (λ f. IfSome H (λ servers. IsFoundIn LONGEST_ROCKSPEC servers c.in_ok-path.path f)) c.in-At.is c.in_ok-find.ensures.found in
-    let there = subst (λ path. IfSome H (λ servers. IsFoundIn LONGEST_ROCKSPEC servers path (At c.in-At.field-0 c.in-At.bytes))) c.in_ok-path.ensures found in
-    let tells = subst (λ bytes. TellsSpec key bytes reply) c.as_slice.ensures c.in_ok-read_and_tell-in-At.ensures in
-    read_so key set H c.in-At.field-0 c.in-At.bytes reply tells there
+    let unserved = subst (IsUnserved Sources c.args.key.now H) c.in-Err-Refused.field-0-is c.in-Err-Refused.ensures.unserved in
+    refused_so c.args.key.now set H c.in-Err-Refused.refusal (outcome_of set reply) unserved
+    (refuses set c.in-Err-Refused.refusal reply c.in_ok-refused-in-Err-Refused.ensures.refusal c.in_ok-refused-in-Err-Refused.ensures.text)

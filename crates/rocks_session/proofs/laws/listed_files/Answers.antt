@@ -1,8 +1,0 @@
-use Rattle.rocks_session.proofs.Listed.{below_there, found_there}
-use Rattle.rocks_session.proofs.laws.listed_files.Goals as goal
-
-pub returns-clause-below : goal.returns-clause-below
-returns-clause-below c = below_there
-
-pub returns-clause-found : goal.returns-clause-found
-returns-clause-found c = found_there
