@@ -2,18 +2,42 @@
 
 mod comparison;
 mod evaluation;
-mod failing;
+mod installing;
 mod linting;
+mod refusals;
 
-use failing::{FailingDevice, FailingShelf};
+use failing_objects::{FailingDevice, FailingShelf};
 use rocks_outside::{Device, MemoryDevice, MemoryShelf, MemorySource, Shelf};
 use rocks_session::{Command, RootWords, Status, read_words, roots, run};
 use rocks_text::{FilePath, TreePath};
 use std::process::Abort;
 
-const ROCKSPEC: &str = "package = \"Hello\"\nversion = \"1.0-1\"\n";
+const ROCKSPEC: &str = "package = \"Hello\"\nversion = \"1.0-1\"\n\
+source = { url = \".\" }\nbuild = { type = \"none\" }\n";
 
 const SPEC_PLACE: &str = "lib/luarocks/rocks-5.4/hello/1.0-1/hello-1.0-1.rockspec";
+
+const RECORD_PLACE: &str = "lib/luarocks/rocks-5.4/hello/1.0-1/rock_manifest";
+
+const DOC_PLACE: &str = "lib/luarocks/rocks-5.4/hello/1.0-1/doc/x.txt";
+
+// The least path of the rock's files in a tree.
+const LEAST_PLACE: &str = "bin/h";
+
+// The digests but the rockspec's are those of RFC 1321.
+const RECORD: &str = "bin = {
+   h = \"d41d8cd98f00b204e9800998ecf8427e\",
+}
+lib = {}
+lua = {
+   [\"h.lua\"] = \"0cc175b9c0f1b6a831c399e269772661\",
+   [\"h/i.lua\"] = \"900150983cd24fb0d6963f7d28e17f72\",
+}
+own = {
+   [\"doc/x.txt\"] = \"f96b697d7cb7938d525a2f31aaf161d0\",
+   [\"hello-1.0-1.rockspec\"] = \"a2b83658a77e90f42038b8ed41fd0c1f\",
+}
+";
 
 const ADD: &str = "--tree T --from S add hello 1.0-1";
 
@@ -52,13 +76,22 @@ fn put(
     assert!(rt; taken.expect(rt, "memory"));
 }
 
-// Two servers with a rock, of which the first is taken.
+// Two servers with an unpacked rock, of which the first is taken.
 fn hello(rt: &(impl Abort + AllocGlobal)) -> MemoryShelf {
     let mut shelf = MemoryShelf::new(rt.alloc(), 2).expect(rt, "memory");
     let rockspec = "hello-1.0-1.rock/hello-1.0-1.rockspec";
     put(rt, &mut shelf, 0, rockspec, ROCKSPEC);
+    put(rt, &mut shelf, 0, "hello-1.0-1.rock/bin/h", "");
+    put(
+        rt,
+        &mut shelf,
+        0,
+        "hello-1.0-1.rock/doc/x.txt",
+        "message digest",
+    );
     put(rt, &mut shelf, 0, "hello-1.0-1.rock/lua/h.lua", "a");
-    put(rt, &mut shelf, 0, "hello-1.0-1.rock/lua/h/i.lua", "b");
+    put(rt, &mut shelf, 0, "hello-1.0-1.rock/lua/h/i.lua", "abc");
+    put(rt, &mut shelf, 0, "hello-1.0-1.rock/rock_manifest", "old");
     put(rt, &mut shelf, 1, rockspec, "later");
     shelf
 }
@@ -101,15 +134,18 @@ fn an_unpacked_rock_is_added_to_an_empty_tree(rt: HostRuntime) {
     let line = "--tree T --from S --from L add Hello 1.0-1";
     runs(&rt, &mut device, &mut shelf, line, 0, ADDED);
     holds(&rt, &mut device, SPEC_PLACE, ROCKSPEC);
+    holds(&rt, &mut device, RECORD_PLACE, RECORD);
+    holds(&rt, &mut device, DOC_PLACE, "message digest");
+    holds(&rt, &mut device, "bin/h", "");
     holds(&rt, &mut device, "share/lua/5.4/h.lua", "a");
-    holds(&rt, &mut device, "share/lua/5.4/h/i.lua", "b");
-    assert_eq!(rt; count(&rt, &mut device), 3);
-    assert_eq!(rt; device.clock(), 5);
+    holds(&rt, &mut device, "share/lua/5.4/h/i.lua", "abc");
+    assert_eq!(rt; count(&rt, &mut device), 6);
+    assert_eq!(rt; device.clock(), 8);
 
     // The tree can't be opened again yet.
     let status = runs(&rt, &mut device, &mut shelf, line, 7, ADDED);
-    assert!(rt; is_damaged(&status, SPEC_PLACE));
-    assert_eq!(rt; device.clock(), 5);
+    assert!(rt; is_damaged(&status, LEAST_PLACE));
+    assert_eq!(rt; device.clock(), 8);
 }
 
 fn is_damaged(status: &Status, at: &str) -> bool {
@@ -127,6 +163,15 @@ fn is_refused(rt: &(impl Abort + AllocGlobal), shelf: &mut MemoryShelf, line: &s
     assert!(rt; device.clock() == 1, "{line}");
 }
 
+// A command on an empty tree ends with a fault of the shelf, and calls the device for nothing.
+fn is_broken_off(rt: &(impl Abort + AllocGlobal), shelf: &mut FailingShelf, line: &str) {
+    let mut device = device(rt);
+    let words = words(rt, line);
+    let status = run(rt.alloc(), &words, &mut device, shelf, &mut no_input(rt));
+    assert!(rt; status.code() == 5, "{line}");
+    assert!(rt; device.clock() == 0, "{line}");
+}
+
 #[test]
 fn a_refused_command_changes_no_file(rt: HostRuntime) {
     let mut shelf = hello(&rt);
@@ -134,11 +179,23 @@ fn a_refused_command_changes_no_file(rt: HostRuntime) {
     is_refused(&rt, &mut shelf, line, "refused NoRock hello 2.0-1\n");
     let line = "--tree T --from S add lua 5.4-1";
     is_refused(&rt, &mut shelf, line, "refused Provided\n");
-    put(&rt, &mut shelf, 0, "hello-1.0-1.rock/bin/h", "h");
-    is_refused(&rt, &mut shelf, ADD, "refused NotServed hello 1.0-1\n");
+    let path = "hello-1.0-1.rock/hello-1.0-1.rockspec";
+    put(
+        &rt,
+        &mut shelf,
+        0,
+        path,
+        "package = \"Hello\"\nversion = \"1.0-1\"\n",
+    );
+    is_refused(
+        &rt,
+        &mut shelf,
+        ADD,
+        "refused Spec hello 1.0-1 Missing source\n",
+    );
 }
 
-const FAULTY: [&str; 16] = [
+const FAULTY: [&str; 23] = [
     "",
     "add hello 1.0-1",
     "--tree T",
@@ -152,6 +209,13 @@ const FAULTY: [&str; 16] = [
     "--tree T --from 1 --from 2 --from 3 --from 4 --from 5 --from 6 --from 7 --from 8 --from 9 \
 add hello 1.0-1",
     "--tree T add --tree x",
+    "install hello 1.0-1",
+    "--tree T install",
+    "--tree T install hello",
+    "--tree T install hello 1.0",
+    "--tree T install hello 1.0-1 x",
+    "--tree T install lua-x/y 1.0-1",
+    "--tree T install --from x",
     "--tree T remove hello",
     "--tree T eval",
     "--tree T eval a/../b",
@@ -203,68 +267,87 @@ fn adds(rt: &(impl Abort + AllocGlobal), command: &Command, name: &str, version:
     copied.name.as_str() == name && copied.version.as_str() == version
 }
 
+#[test]
+fn words_say_what_to_install(rt: HostRuntime) {
+    let command = command(&rt, &words(&rt, "--tree T install a_B 1.0.rc-2"));
+    let Command::Install(key) = command else {
+        panic!(rt; "another command");
+    };
+    assert!(rt; key.name.as_str() == "a_b");
+    assert!(rt; key.version.as_str() == "1.0.rc-2");
+}
+
 fn calls(rt: &(impl Abort + AllocGlobal), line: &str, calls: &[&str]) {
+    calls_over(rt, &mut hello(rt), line, calls);
+}
+
+// Looks at the device's calls of a run over a shelf.
+fn calls_over<F: Shelf>(
+    rt: &(impl Abort + AllocGlobal),
+    shelf: &mut F,
+    line: &str,
+    calls: &[&str],
+) {
     let mut device = FailingDevice::new(rt.alloc(), u64::MAX);
     let words = words(rt, line);
-    let mut shelf = hello(rt);
-    run(
-        rt.alloc(),
-        &words,
-        &mut device,
-        &mut shelf,
-        &mut no_input(rt),
-    );
+    run(rt.alloc(), &words, &mut device, shelf, &mut no_input(rt));
     assert!(rt; device.calls.as_slice() == calls, "{line}");
 }
+
+const ADD_CALLS: [&str; 9] = [
+    "list", "write", "write", "write", "write", "write", "write", "sync", "say",
+];
 
 // Clauses can't speak yet of what a crash may leave, so the order of the calls is looked at.
 #[test]
 fn what_is_written_is_synced_and_then_said(rt: HostRuntime) {
-    calls(
-        &rt,
-        ADD,
-        &["list", "write", "write", "write", "sync", "say"],
-    );
+    calls(&rt, ADD, &ADD_CALLS);
     calls(&rt, "--tree T --from S add hello 2.0-1", &["list", "say"]);
     calls(&rt, "--tree T --from S add lua 5.4-1", &["list", "say"]);
     calls(&rt, "--tree T --from S eval a.lua", &["list", "say"]);
 }
 
-// A device on which so many calls are done and then none.
-fn device_fails(rt: &(impl Abort + AllocGlobal), calls_left: u64, code: u8, said: &str) {
-    let mut device = FailingDevice::new(rt.alloc(), calls_left);
-    let words = words(rt, ADD);
-    let mut shelf = hello(rt);
-    let status = run(
-        rt.alloc(),
-        &words,
-        &mut device,
-        &mut shelf,
-        &mut no_input(rt),
+// Runs the words on a device on which so many calls are done and then none. No call is made behind one that failed.
+fn device_fails(
+    rt: &(impl Abort + AllocGlobal),
+    shelf: &mut MemoryShelf,
+    line: &str,
+    calls: &[&str],
+    calls_left: usize,
+) {
+    let mut device = FailingDevice::new(rt.alloc(), calls_left as u64);
+    let words = words(rt, line);
+    let status = run(rt.alloc(), &words, &mut device, shelf, &mut no_input(rt));
+    assert!(rt; status.code() == 4, "after {calls_left}");
+    assert!(rt;
+        device.calls.as_slice() == calls.get(..=calls_left).expect(rt, line),
+        "after {calls_left}"
     );
-    assert!(rt; status.code() == code, "after {calls_left}");
+    // What fails to be said has said a first part.
+    let said = if device.calls.len() == calls.len() {
+        "+"
+    } else {
+        ""
+    };
     assert!(rt;
         device.said.as_slice() == said.as_bytes(),
         "after {calls_left}"
     );
 }
 
-// The calls are the listing, three writes, the sync and the reply.
 #[test]
 fn a_device_that_fails_in_mid_run_is_a_device_fault(rt: HostRuntime) {
-    device_fails(&rt, 0, 4, "");
-    device_fails(&rt, 1, 4, "");
-    device_fails(&rt, 3, 4, "");
-    device_fails(&rt, 4, 4, "");
-    device_fails(&rt, 5, 4, "+");
-    device_fails(&rt, 6, 0, ADDED);
+    for calls_left in 0..ADD_CALLS.len() {
+        device_fails(&rt, &mut hello(&rt), ADD, &ADD_CALLS, calls_left);
+    }
 }
 
-// A shelf on which so many calls are done and then none. The clock tells whether a file was changed.
-fn shelf_fails(rt: &(impl Abort + AllocGlobal), calls_left: u64, code: u8, clock: u64) {
-    let mut shelf = FailingShelf::new(hello(rt), calls_left);
-    let mut device = device(rt);
-    let words = words(rt, ADD);
+// Runs the words over a shelf on which so many calls are done and then none. The tree is looked at, and nothing else is
+// called.
+fn shelf_fails(rt: &(impl Abort + AllocGlobal), servers: MemoryShelf, line: &str, calls_left: u64) {
+    let mut shelf = FailingShelf::new(servers, calls_left);
+    let mut device = FailingDevice::new(rt.alloc(), u64::MAX);
+    let words = words(rt, line);
     let status = run(
         rt.alloc(),
         &words,
@@ -272,16 +355,18 @@ fn shelf_fails(rt: &(impl Abort + AllocGlobal), calls_left: u64, code: u8, clock
         &mut shelf,
         &mut no_input(rt),
     );
-    assert!(rt; status.code() == code, "after {calls_left}");
-    assert!(rt; device.clock() == clock, "after {calls_left}");
+    assert!(rt; status.code() == 5, "after {calls_left}");
+    assert!(rt;
+        device.calls.as_slice() == ["list"].as_slice(),
+        "after {calls_left}"
+    );
 }
 
-// The calls are the rockspec, the listing and two modules.
+// The calls are the rockspec, the listing and four files.
 #[test]
 fn a_shelf_that_fails_in_mid_run_is_a_shelf_fault(rt: HostRuntime) {
-    shelf_fails(&rt, 0, 5, 0);
-    shelf_fails(&rt, 1, 5, 0);
-    shelf_fails(&rt, 2, 5, 0);
-    shelf_fails(&rt, 3, 5, 0);
-    shelf_fails(&rt, 4, 0, 5);
+    for calls_left in 0..6 {
+        shelf_fails(&rt, hello(&rt), ADD, calls_left);
+    }
+    calls_over(&rt, &mut FailingShelf::new(hello(&rt), 6), ADD, &ADD_CALLS);
 }

@@ -1,9 +1,10 @@
 //! The command `eval` over objects in memory.
 
-use super::failing::FailingShelf;
 use super::{
-    ADD, ADDED, SPEC_PLACE, device, hello, is_damaged, is_refused, no_input, put, runs, words,
+    ADD, ADDED, LEAST_PLACE, device, hello, is_broken_off, is_damaged, is_refused, no_input, put,
+    runs, words,
 };
+use failing_objects::FailingShelf;
 use rocks_outside::{MemoryShelf, Shelf};
 use rocks_session::run;
 use rocks_text::FilePath;
@@ -122,21 +123,11 @@ fn a_damaged_tree_evaluates_nothing(rt: HostRuntime) {
     let mut device = device(&rt);
     runs(&rt, &mut device, &mut shelf, ADD, 0, ADDED);
     let status = runs(&rt, &mut device, &mut shelf, EVAL, 7, ADDED);
-    assert!(rt; is_damaged(&status, SPEC_PLACE));
+    assert!(rt; is_damaged(&status, LEAST_PLACE));
 }
 
 #[test]
 fn a_shelf_that_fails_evaluates_nothing(rt: HostRuntime) {
     let mut shelf = FailingShelf::new(shelf_with(&rt, b"a = 1"), 0);
-    let mut device = device(&rt);
-    let words = words(&rt, EVAL);
-    let status = run(
-        rt.alloc(),
-        &words,
-        &mut device,
-        &mut shelf,
-        &mut no_input(&rt),
-    );
-    assert_eq!(rt; status.code(), 5);
-    assert_eq!(rt; device.clock(), 0);
+    is_broken_off(&rt, &mut shelf, EVAL);
 }

@@ -1,9 +1,8 @@
 //! The command `lint` over objects in memory.
 
-use super::failing::FailingShelf;
-use super::{device, is_refused, no_input, put, runs, words};
+use super::{device, is_broken_off, is_refused, put, runs};
+use failing_objects::FailingShelf;
 use rocks_outside::MemoryShelf;
-use rocks_session::run;
 use std::process::Abort;
 
 const LINT: &str = "--tree T --from S lint M 1.0-1";
@@ -101,15 +100,5 @@ fn the_earliest_server_with_the_rockspec_is_asked(rt: HostRuntime) {
 #[test]
 fn a_shelf_that_fails_checks_nothing(rt: HostRuntime) {
     let mut shelf = FailingShelf::new(shelf_with(&rt, BUILTIN), 0);
-    let mut device = device(&rt);
-    let words = words(&rt, LINT);
-    let status = run(
-        rt.alloc(),
-        &words,
-        &mut device,
-        &mut shelf,
-        &mut no_input(&rt),
-    );
-    assert_eq!(rt; status.code(), 5);
-    assert_eq!(rt; device.clock(), 0);
+    is_broken_off(&rt, &mut shelf, LINT);
 }

@@ -1,10 +1,11 @@
-//! Objects that note their calls and fail at one chosen one. Contracts learn nothing of what they hold.
+//! Objects that note their calls, and fail at a chosen one and at each behind it. Contracts learn nothing of what they
+//! hold.
 
 use rocks_outside::{Device, DeviceError, MemoryShelf, Shelf, ShelfError, ShelfRead};
 use rocks_text::{FilePath, TreePath};
 use std::alloc::Global;
 
-/// Which call fails, counted from 0, and how often one has failed.
+/// How many calls are still done, and how often one has failed.
 #[derive(Drop)]
 struct Fuse {
     calls_left: u64,
@@ -32,7 +33,9 @@ impl Fuse {
 /// An empty tree. It keeps what is said to it and the names of its calls, and no file.
 #[derive(Drop)]
 pub struct FailingDevice {
+    /// What was said. A call that failed has said its first byte.
     pub said: Vec<u8>,
+    /// The names of the calls, that of one that failed among them.
     pub calls: Vec<&'static str>,
     fuse: Fuse,
     clock: u64,
@@ -40,6 +43,7 @@ pub struct FailingDevice {
 }
 
 impl FailingDevice {
+    /// A device on which so many calls are done and then none. It takes no memory.
     pub fn new(alloc: Global, calls_left: u64) -> FailingDevice {
         FailingDevice {
             said: Vec::new(alloc),
@@ -143,6 +147,8 @@ pub struct FailingShelf {
 }
 
 impl FailingShelf {
+    /// A shelf with these servers on which so many calls of `read` and `list` are done and then none. It takes no
+    /// memory.
     pub fn new(servers: MemoryShelf, calls_left: u64) -> FailingShelf {
         FailingShelf {
             servers,
