@@ -13,7 +13,7 @@ use Rattle.rocks_constraint.specs.declared.constraint.Constraint.{Constraint}
 use Rattle.rocks_constraint.specs.declared.constraint.Operator.{Operator}
 use Rattle.rocks_constraint.specs.declared.constraint.Operator.TheVariants.{Eq, Ne, Lt, Gt, Le, Ge, Near}
 use Rattle.rocks_constraint.specs.Alphabet.{may_part, is_operator_byte, is_blank, operator_of, BeginsOtherwise, IsCut}
-use Rattle.rocks_constraint.specs.Grammar.{IsConstraintAt, IsDependency, IsTail, ended, goes_on}
+use Rattle.rocks_constraint.specs.Grammar.{IsConstraintAt, IsDependency, IsRead, IsTail, ended, goes_on}
 use Rattle.rocks_constraint.specs.Meets.{holds, meets_all}
 use Rattle.rocks_constraint.proofs.Tails.{constraint_shorter}
 
@@ -127,11 +127,13 @@ one_tail e same (goes_on count text gap behind rest c cs few cut one tail) (goes
     let others = one_tail (ap suc e) firsts.1 tail end in
     ap (λ (x : Constraint). x ∷ cs) firsts.0 ∙ ap (λ (l : List Constraint). d ∷ l) others
 
-pub one_read : (text name other : List ℕ) (constraints others : List Constraint) → IsDependency text name constraints → IsDependency text other others
+pub one_reading : (text name other : List ℕ) (constraints others : List Constraint) → IsRead text name constraints → IsRead text other others
     → (name ≡ other) × (constraints ≡ others)
-one_read text name other constraints others first second =
-    let one = first.1 in
-    let again = second.1 in
+one_reading text name other constraints others one again =
     let blanks = one_cut is_blank text text one.blanks again.blanks one.from_name again.from_name refl one.cut_blanks again.cut_blanks in
     let runs = one_cut is_version_byte one.from_name again.from_name one.run again.run one.behind again.behind blanks.1 one.cut_name again.cut_name in
     (one.lowers ∙ ap (λ (t : List ℕ). lowered t) runs.0 ∙ sym again.lowers, one_tail refl runs.1 one.tail again.tail)
+
+pub one_read : (text name other : List ℕ) (constraints others : List Constraint) → IsDependency text name constraints → IsDependency text other others
+    → (name ≡ other) × (constraints ≡ others)
+one_read text name other constraints others first second = one_reading text name other constraints others first.1 second.1

@@ -1,5 +1,5 @@
 -- What a text is read as, or told to be.
-use Rattle.std.proofs.Common.{◌≡◌, ℕ, ◌<◌, List, length, sym, ap, subst, ◌∙◌, inl, inr}
+use Rattle.std.proofs.Common.{◌≡◌, ◌≢◌, refl, ℕ, ◌<◌, List, length, sym, ap, subst, ◌∙◌, inl, inr}
 use Rattle.std.specs.Prelude.{◌⊎◌}
 use Rattle.rocks_constraint.specs.declared.constraint.Constraint.{Constraint}
 use Rattle.rocks_constraint.specs.declared.constraint.TheConstants.{LONGEST}
@@ -9,6 +9,7 @@ use Rattle.rocks_constraint.specs.declared.reader.Wrong.{Wrong}
 use Rattle.rocks_constraint.specs.declared.reader.Wrong.TheVariants as wrongs
 use Rattle.rocks_constraint.specs.Faults.{fault_at, limited, wrong, too_long, HasFault, IsWrong}
 use Rattle.rocks_constraint.specs.Grammar.{IsRead}
+use Rattle.rocks_constraint.proofs.FaultLaws.{read_clean}
 
 module _ (text bytes : List ℕ) (same : bytes ≡ text) where
   pub long_fault : (name : List ℕ) (constraints : List Constraint) → LONGEST < length text → IsRead bytes name constraints → HasFault text (BadDependency LONGEST)
@@ -21,3 +22,9 @@ module _ (text bytes : List ℕ) (same : bytes ≡ text) where
         | inl memory ↦ inl (is ∙ ap (λ (w : Wrong). limited (length text) (fault_at w)) memory)
         | inr bad ↦ inr (subst (λ (f : DependencyFault). HasFault text f) (sym is) (wrong text (fault_at part) (subst (λ (t : List ℕ). IsWrong t (fault_at part)) same bad)))
       ]
+
+-- what has a wrong part is read as nothing
+pub unread : (text : List ℕ) (part : Wrong) → part ≢ wrongs.NoMemory → (part ≡ wrongs.NoMemory) ⊎ IsWrong text (fault_at part)
+    → (name : List ℕ) (constraints : List Constraint) → ¬ (IsRead text name constraints)
+unread text part other (inl memory) name constraints read = other memory
+unread text part other (inr bad) name constraints read = read_clean text name constraints refl read bad

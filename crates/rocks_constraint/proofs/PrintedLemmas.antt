@@ -12,7 +12,7 @@ use Rattle.rocks_constraint.specs.declared.constraint.Constraint.{Constraint}
 use Rattle.rocks_constraint.specs.declared.constraint.Operator.{Operator}
 use Rattle.rocks_constraint.specs.declared.constraint.Operator.TheVariants.{Eq, Ne, Lt, Gt, Le, Ge, Near}
 use Rattle.rocks_constraint.specs.Alphabet.{may_part, is_operator_byte, is_blank, operator_of, BeginsOtherwise}
-use Rattle.rocks_constraint.specs.Grammar.{IsConstraintAt, IsDependency, IsTail, ended, goes_on}
+use Rattle.rocks_constraint.specs.Grammar.{IsConstraintAt, IsDependency, IsRead, IsTail, ended, goes_on}
 use Rattle.rocks_constraint.specs.Printed.{constraint_text, constraints_text, operator_text, printed}
 
 left : (a b : Bool) → (a && b) ≡ true → a ≡ true
@@ -156,23 +156,25 @@ name_stops : (cs : List Constraint) → BeginsOtherwise is_version_byte (constra
 name_stops [] = tt
 name_stops (c ∷ cs) = refl
 
-pub printed_read : (name : List ℕ) (constraints : List Constraint) → IsTrue (is_name name) → IsTrue (are_versions constraints) → length constraints ≤ 32
-    → length (printed name constraints) ≤ 1000 → IsDependency (printed name constraints) name constraints
-printed_read name constraints named all few short =
+pub printed_reading : (name : List ℕ) (constraints : List Constraint) → IsTrue (is_name name) → IsTrue (are_versions constraints) → length constraints ≤ 32
+    → IsRead (printed name constraints) name constraints
+printed_reading name constraints named all few =
     let front = left (nat_le 1 (length name) && nat_le (length name) 60 && is_ascii_alphanumeric (slice_index name 0) && list_all is_name_byte name) (not (bytes_eq name (codes "manifest"))) named in
     let bytes = right (nat_le 1 (length name) && nat_le (length name) 60 && is_ascii_alphanumeric (slice_index name 0)) (list_all is_name_byte name) front in
     let begins = right (nat_le 1 (length name) && nat_le (length name) 60) (is_ascii_alphanumeric (slice_index name 0))
-    (left (nat_le 1 (length name) && nat_le (length name) 60 && is_ascii_alphanumeric (slice_index name 0)) (list_all is_name_byte name) front) in (
-      short,
-      record {
-        blanks = [];
-        from_name = printed name constraints;
-        run = name;
-        behind = constraints_text constraints;
-        cut_blanks = record { whole = refl; passes = refl; longest = begins_no_blank name (constraints_text constraints) begins };
-        cut_name = record { whole = refl; passes = name_bytes name bytes; longest = name_stops constraints };
-        lowers = low_name name bytes;
-        is_one = named;
-        tail = first_read constraints few all;
-      },
-    )
+    (left (nat_le 1 (length name) && nat_le (length name) 60 && is_ascii_alphanumeric (slice_index name 0)) (list_all is_name_byte name) front) in
+    record {
+      blanks = [];
+      from_name = printed name constraints;
+      run = name;
+      behind = constraints_text constraints;
+      cut_blanks = record { whole = refl; passes = refl; longest = begins_no_blank name (constraints_text constraints) begins };
+      cut_name = record { whole = refl; passes = name_bytes name bytes; longest = name_stops constraints };
+      lowers = low_name name bytes;
+      is_one = named;
+      tail = first_read constraints few all;
+    }
+
+pub printed_read : (name : List ℕ) (constraints : List Constraint) → IsTrue (is_name name) → IsTrue (are_versions constraints) → length constraints ≤ 32
+    → length (printed name constraints) ≤ 1000 → IsDependency (printed name constraints) name constraints
+printed_read name constraints named all few short = (short, printed_reading name constraints named all few)

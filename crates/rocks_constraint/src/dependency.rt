@@ -1,7 +1,9 @@
-ghost use Rattle.std.specs.Prelude.{◌≡◌, ◌≤◌, ◌⊎◌, length, string_bytes, IfErr, IfOk};
+ghost use Rattle.std.specs.Prelude.{◌≡◌, ◌≤◌, ◌⊎◌, ℕ, List, None, length, string_bytes};
+ghost use Rattle.std.specs.Prelude.{IfErr, IfOk, IfSome};
 ghost use Rattle.rocks_constraint.specs.Faults.{fault_at, limited, place_of, HasFault};
-ghost use Rattle.rocks_constraint.specs.Grammar.{IsDependency};
+ghost use Rattle.rocks_constraint.specs.Grammar.{IsDependency, IsRead};
 ghost use Rattle.rocks_constraint.specs.Printed.{printed};
+ghost use Rattle.rocks_constraint.specs.declared.constraint.Constraint.{Constraint as Condition};
 
 use crate::constraint::{LONGEST, MOST_CONSTRAINTS};
 use crate::printed::push_constraints;
@@ -56,6 +58,23 @@ impl Dependency {
                 place: LONGEST as u32,
             }),
             Err(wrong) => Err(limited(text.len(), wrong)),
+        }
+    }
+
+    /// The dependency that a text of any length spells, or `None` exactly where it spells none. The only error is want of
+    /// memory.
+    pub fn read_unlimited(alloc: Global, text: &[u8]) -> Result<Option<Dependency>, AllocError>
+        ensures read { IfOk result (λ found.
+            IfSome found (λ d. IsRead text.now d.name d.constraints)) }
+        ensures none { IfOk result (λ found. found ≡ None
+            → (name : List ℕ) (constraints : List Condition)
+            → ¬ (IsRead text.now name constraints)) }
+    {
+        match read_text(alloc, text) {
+            Ok((name, constraints)) => Ok(Some(Dependency { name, constraints })),
+            Err(Wrong::NoMemory) => Err(AllocError),
+            Err(Wrong::Operator(_)) => Ok(None),
+            Err(Wrong::Other(_)) => Ok(None),
         }
     }
 

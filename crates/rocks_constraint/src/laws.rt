@@ -5,7 +5,7 @@ ghost use Rattle.rocks_text.specs.Texts.{is_name};
 ghost use Rattle.rocks_version.specs.Components.{components};
 ghost use Rattle.rocks_version.specs.Texts.{body, is_version, revision};
 ghost use Rattle.rocks_constraint.specs.Faults.{HasFault};
-ghost use Rattle.rocks_constraint.specs.Grammar.{IsDependency};
+ghost use Rattle.rocks_constraint.specs.Grammar.{IsDependency, IsRead};
 ghost use Rattle.rocks_constraint.specs.Meets.{holds, meets_all};
 ghost use Rattle.rocks_constraint.specs.Printed.{printed};
 ghost use Rattle.rocks_constraint.specs.declared.constraint.Constraint.{Constraint};
@@ -33,16 +33,24 @@ pub fn comparisons_exclude()
         || not (holds Operator.Lt version given || holds Operator.Gt version given)) }
 {}
 
-/// A text is one dependency at most.
+/// A text is one dependency at most, of whatever length.
 pub fn one_dependency()
-    ensures { (text name other : List ℕ) (constraints others : List Constraint)
+    ensures limited { (text name other : List ℕ) (constraints others : List Constraint)
         → IsDependency text name constraints → IsDependency text other others
+        → (name ≡ other) × (constraints ≡ others) }
+    ensures unlimited { (text name other : List ℕ) (constraints others : List Constraint)
+        → IsRead text name constraints → IsRead text other others
         → (name ≡ other) × (constraints ≡ others) }
 {}
 
-/// What is written for a name and constraints is read back as them, where it is short enough.
+/// What is written for a name and constraints is read back as them: within the limit where it is short enough, and
+/// without it always.
 pub fn written_is_read()
-    ensures { (name : List ℕ) (constraints : List Constraint) → IsTrue (is_name name)
+    ensures unlimited { (name : List ℕ) (constraints : List Constraint) → IsTrue (is_name name)
+        → IsTrue (list_all (λ c. is_version c.version) constraints)
+        → length constraints ≤ MOST_CONSTRAINTS
+        → IsRead (printed name constraints) name constraints }
+    ensures limited { (name : List ℕ) (constraints : List Constraint) → IsTrue (is_name name)
         → IsTrue (list_all (λ c. is_version c.version) constraints)
         → length constraints ≤ MOST_CONSTRAINTS
         → length (printed name constraints) ≤ LONGEST
