@@ -1,0 +1,16 @@
+pub mod Folders
+pub mod ItemPlaces
+pub mod ItemTests
+pub mod NeedsMet
+pub mod Newest
+pub mod NoFolders
+pub mod OwnPaths
+pub mod PathTies
+pub mod Providers
+pub mod RecordsRead
+pub mod RockFiles
+pub mod Rows
+pub mod SetKeys
+pub mod SortedLists
+pub mod Standing
+pub mod TreeFiles

@@ -1,0 +1,9 @@
+pub use Rattle.manifest_text.specs.Text
+pub use Rattle.rock_record.specs.Made
+pub use Rattle.rock_record.specs.Rocks
+pub use Rattle.tree_claims.specs.Claims
+pub mod Needs
+pub mod Places
+pub mod Sets
+pub mod Trees
+pub mod View

@@ -1,0 +1,3 @@
+pub mod EmptySet
+pub mod OneSet
+pub mod SameParts

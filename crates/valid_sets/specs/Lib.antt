@@ -1,0 +1,3 @@
+pub use Rattle.tree_sets.specs.Sets
+pub use Rattle.tree_sets.specs.Trees
+pub mod Valid
