@@ -170,7 +170,7 @@ module _ (f : Entries) (item : Item) (b : Entries) (under : Under entries_total 
 
 -- ---- one list
 
-some_if_listed : (entries : Entries) (e : Item × List RockKey) → AllByRecursion (λ entry. AreRocks entry.1) entries → Contains entries e → AreRocks e.1
+pub some_if_listed : (entries : Entries) (e : Item × List RockKey) → AllByRecursion (λ entry. AreRocks entry.1) entries → Contains entries e → AreRocks e.1
 some_if_listed entries e all has = all_contained (λ entry. AreRocks entry.1) entries e all has
 
 -- an entry that is there has its item's rocks
@@ -198,7 +198,7 @@ entry_if_rocks (x ∷ entries) item some = by (entry_if_rocks entries item) (is_
         let rest : rocks_of (x ∷ entries) item ≡ rocks_of entries item = past x entries item e in
         subst (λ l. Contains (x ∷ entries) (item, l)) (sym rest) (contains_later x entries (item, rocks_of entries item) (behind (λ none. some (rest ∙ none))))
 
-rocks_rise : (entries : Entries) (item : Item) → AllByRecursion (λ entry. AreRocks entry.1) entries → Rises listing_cmp (rocks_of entries item)
+pub rocks_rise : (entries : Entries) (item : Item) → AllByRecursion (λ entry. AreRocks entry.1) entries → Rises listing_cmp (rocks_of entries item)
 rocks_rise [] item all = tt
 rocks_rise (x ∷ entries) item all =
     elim (is_eq (item_cmp item x.0)) as (λ t. Rises listing_cmp (if t then x.1 else rocks_of entries item)) [

@@ -1,5 +1,5 @@
 ghost use Rattle.std.specs.Prelude.{◌≡◌, ◌⊎◌, ◌↔◌, ◌∷◌, [], false, List, IsTrue, OnOk, OnErr, Contains};
-ghost use Rattle.std.specs.Prelude.{drop, slice_get};
+ghost use Rattle.std.specs.Prelude.{◌<◌, ◌^◌, drop, length, slice_get};
 ghost use Rattle.std.specs.Option.{option_map};
 ghost use Rattle.rocks_text.specs.declared.item.Item.{Item as AnItem};
 ghost use Rattle.rocks_version.specs.declared.key.RockKey.{RockKey as ARock};
@@ -100,6 +100,16 @@ impl Providers {
             [] => &[],
             [_, rest @ ..] => rest,
         }
+    }
+
+    /// The item at a place in the order of items, with the rocks that have it, in the order in which rocks are listed; None
+    /// behind the last. It takes no memory.
+    pub fn entry(&self, at: usize) -> Option<(&Item, &[RockKey])>
+        ensures value { option_map (λ e. (e.0.now, e.1.now)) result ≡ slice_get self.now at }
+        ensures few { length self.now < 2 ^ 63 }
+    {
+        let entry = self.entries.get(at)?;
+        Some((&entry.item, entry.rocks.as_slice()))
     }
 
     // The rocks that have the item.

@@ -5,14 +5,14 @@ use Rattle.std.specs.Cmp.Lexicographic.{slice_cmp}
 use Rattle.std.specs.List.Sorted.{IsPermutation, IsSortedBy}
 use Rattle.std.specs.Ordering.{eq_by_cmp, nat_cmp}
 use Rattle.std.proofs.lemmas.Cmp.{nat_list_cmp_total}
-use Rattle.std.proofs.lemmas.List.{map-append, take_more}
+use Rattle.std.proofs.lemmas.List.{append-nil, map-append, take_more}
 use Rattle.std.proofs.lemmas.List.Concat.{flat_map-append}
 use Rattle.std.proofs.lemmas.List.Sorted.{ranks_by, Contains-permutation, IsPermutation-sym}
 use Rattle.std.proofs.lemmas.Map.Text.{is_eq-slice_cmp}
 use Rattle.rocks_text.specs.declared.item.Item.{Item}
 use Rattle.rocks_version.specs.declared.key.RockKey.{RockKey}
 use Rattle.tree_paths.specs.Places.{plain_path, versioned_path}
-use Rattle.tree_claims.specs.Claims.{Claim, claims_for, claims_of_rock}
+use Rattle.tree_claims.specs.Claims.{Claim, claims_for, claims_of, claims_of_rock}
 use Rattle.tree_claims.specs.Index.{entry_of, goes_before, may_stand, IsIndex}
 use Rattle.tree_claims.specs.Rocks.{is_same_rock}
 use Rattle.tree_claims.specs.declared.entry.Entry.{Entry}
@@ -42,6 +42,14 @@ entries_more key items i item so_far within is same =
     let both = ap (map entry_of) claims ∙ map-append entry_of (claims_of_rock key (take i items)) (claims_for key item) in
     append_assoc so_far (record { path = plain_path item; key = key; is_plain = true } ∷ []) (record { path = versioned_path item key; key = key; is_plain = false } ∷ [])
     ∙ ap (λ (l : List Entry). l ++ map entry_of (claims_for key item)) same ∙ sym both
+
+pub claims_more : (rocks : List (RockKey × List Item)) (i : ℕ) (rock : RockKey × List Item) (so_far more : List Entry) → i < length rocks → rock ≡ get_or rocks i rock
+    → so_far ≡ map entry_of (claims_of (take i rocks)) → more ≡ map entry_of (claims_of_rock rock.0 rock.1) → so_far ++ more ≡ map entry_of (claims_of (take (i + 1) rocks))
+claims_more rocks i rock so_far more within is same these =
+    let longer = take_more rocks i rock within ∙ ap (λ (r : RockKey × List Item). take i rocks ++ r ∷ []) (sym is) in
+    let claims = ap claims_of longer ∙ flat_map-append (λ (r : RockKey × List Item). claims_of_rock r.0 r.1) (take i rocks) (rock ∷ []) in
+    let last = append-nil (claims_of_rock rock.0 rock.1) in
+    (λ j. same j ++ these j) ∙ sym (ap (map entry_of) (claims ∙ ap (λ (l : List Claim). claims_of (take i rocks) ++ l) last) ∙ map-append entry_of (claims_of (take i rocks)) (claims_of_rock rock.0 rock.1))
 
 pub index_from : (claims : List Claim) (entries sorted : List Entry) → entries ≡ map entry_of claims → IsPermutation entries sorted → IsSortedBy goes_before sorted → IsIndex claims sorted
 index_from claims entries sorted same moved up = record {

@@ -10,7 +10,7 @@ ghost use Rattle.tree_claims.specs.Rocks.{HasRock, IsListed, with_rock, without_
 ghost use Rattle.tree_claims.specs.Rocks.{in_item_order, is_same_rock};
 
 use crate::Clash;
-use crate::entry::{Entry, entries};
+use crate::entry::{Entry, entries, entries_of};
 use crate::search::{first_hit, first_of, hits_any, least_hit, same_path};
 use rocks_text::Item;
 use rocks_version::{RockKey, before};
@@ -52,6 +52,21 @@ impl Claims {
             rocks: Vec::new(alloc),
             index: Vec::new(alloc),
         }
+    }
+
+    /// The claims of rocks that stand in their order and can stand beside each other. The only error
+    /// is want of memory.
+    pub fn of_rocks(alloc: Global, rocks: Vec<(RockKey, Items<Item>)>) -> Result<Claims, AllocError>
+        requires listed { IsListed rocks.items }
+        requires clean { IsClean rocks.items }
+        ensures { IfOk result (λ claims. claims ≡ rocks.items) }
+    {
+        let index = entries_of(alloc, &rocks)?;
+        Ok(Claims {
+            alloc,
+            rocks,
+            index,
+        })
     }
 
     /// Whether a rock is there. It takes no memory.

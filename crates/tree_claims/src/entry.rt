@@ -1,10 +1,11 @@
 ghost use Rattle.std.specs.Prelude.{◌≡◌, ◌↔◌, true, false, map, IfOk, IsTrue};
 ghost use Rattle.tree_paths.specs.Places.{plain_path, versioned_path};
-ghost use Rattle.tree_claims.specs.Claims.{claims_of_rock};
+ghost use Rattle.tree_claims.specs.Claims.{claims_of, claims_of_rock};
 ghost use Rattle.tree_claims.specs.Index.{entry_of, may_stand, Hits, IsIndex};
 
 use rocks_text::{Item, TreePath};
 use rocks_version::RockKey;
+use sqlite_items::Items;
 use std::alloc::{AllocError, Global};
 use tree_paths::{conflict, plain, versioned};
 
@@ -40,6 +41,15 @@ pub fn entries(alloc: Global, key: &RockKey, items: &[Item]) -> Result<Vec<Entry
     Ok(entries)
 }
 
+/// The entries of the claims of rocks. The only error is want of memory.
+pub fn entries_of(alloc: Global, rocks: &[(RockKey, Items<Item>)]) -> Result<Vec<Entry>, AllocError>
+    ensures { IfOk result (λ entries. IsIndex (claims_of rocks.now) entries.items) }
+{
+    let mut entries = unsorted_of(alloc, rocks)?;
+    entries.sort_by(|left, right| left.path.cmp(&right.path))?;
+    Ok(entries)
+}
+
 fn unsorted(alloc: Global, key: &RockKey, items: &[Item]) -> Result<Vec<Entry>, AllocError>
     ensures { IfOk result
         (λ entries. entries.items ≡ map entry_of (claims_of_rock key.now items.now)) }
@@ -48,6 +58,17 @@ fn unsorted(alloc: Global, key: &RockKey, items: &[Item]) -> Result<Vec<Entry>, 
     for item in items {
         entries.push(plain_entry(alloc, key, item)?)?;
         entries.push(versioned_entry(alloc, key, item)?)?;
+    }
+    Ok(entries)
+}
+
+fn unsorted_of(alloc: Global, rocks: &[(RockKey, Items<Item>)]) -> Result<Vec<Entry>, AllocError>
+    ensures { IfOk result (λ entries. entries.items ≡ map entry_of (claims_of rocks.now)) }
+{
+    let mut entries = Vec::new(alloc);
+    for (key, items) in rocks {
+        let mut more = unsorted(alloc, key, items.as_slice())?;
+        entries.append(&mut more)?;
     }
     Ok(entries)
 }

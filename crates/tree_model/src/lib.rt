@@ -2,7 +2,13 @@
 //! that answers the files of one rock.
 #![tactic(auto)]
 
+mod changes;
+mod index;
 pub mod laws;
+mod met;
+mod pairs;
 mod staging;
+mod view;
 
+pub use index::Index;
 pub use staging::{Staged, files};
