@@ -1,0 +1,11 @@
+pub mod Entries
+pub mod Numbered
+pub mod Added
+pub mod WorkPaths
+pub mod Holders
+pub mod Shifts
+pub mod Asides
+pub mod Arrivals
+pub mod Unchanged
+pub mod Performed
+pub mod Counts

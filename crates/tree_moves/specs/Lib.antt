@@ -1,0 +1,3 @@
+pub use Rattle.rocks_text.specs.Files
+pub mod Moves
+pub mod Performing
